@@ -8,7 +8,7 @@ use store::Verdict;
 use store::WORDS;
 use store::refusals::number;
 use store::refusals::word;
-use store::span;
+use store::tells_length;
 
 // The record stands in the lent words, or a refusal's number and its word.
 pub enum Accepted {
@@ -37,7 +37,7 @@ fn read_and_checked(words: &mut [u16; WORDS]) -> Verdict
 pub fn accept(bytes: &[u8], words: &mut [u16; WORDS]) -> Accepted
     ensures { λ a. ⌜ Accepts (now (bytes .entry)) (now (words .entry)) (now (words .exit)) a ⌝ }
 {
-    span(words);
+    tells_length(words);
     let loaded = store::load(bytes, words);
     if let Loaded::Refused(why) = loaded {
         return refused(why);

@@ -18,7 +18,7 @@ use Rattle.state_words.specs.Values as state
 use Rattle.state_words.specs.Values.{undef-from, input-from, names-nothing}
 use Rattle.state_words.specs.Rows.{bundle-condition, bundle-row-at, bundle-target, case-claimed, case-input, case-nothing, case-others}
 use Rattle.state_words.specs.Rows.{case-own-edge, case-row-at, cases-at, entry-replace, level-claimed, level-deferred, return-word}
-use Rattle.state_words.specs.Rows.{returned-at}
+use Rattle.state_words.specs.Rows.{returned-at, condition-true}
 use Rattle.state_words.specs.Rows.{types-at}
 
 -- ---- Targets.
@@ -29,7 +29,7 @@ unfoldable pub target-type : Graph → List ℕ → ℕ → ℕ → ℕ
 target-type g l t k = pick (eqb t return-word) (word l head (types-at + k)) (getD (region g t .inputs) k 0)
 
 unfoldable pub condition-in : List ℕ → ℕ → ℕ → ℕ
-condition-in l p n = pick (eqb n 1) 1 (bundle-condition l p)
+condition-in l p n = pick (eqb n 1) condition-true (bundle-condition l p)
 
 -- ---- Values of the record as words; a record has no outputs and no marked inputs.
 abbrev pub record-word : Value → ℕ

@@ -25,7 +25,7 @@ use state_words::values::value_word;
 use store::WORDS;
 use store::layout::word_at;
 
-pub fn input_count(w: &[u16; WORDS], t: u16) -> u16
+pub fn target_input_count(w: &[u16; WORDS], t: u16) -> u16
     ensures { λ a. ⌜ OfRecord (now (w .entry)) (λ g. a ≡ words.«input-count» g (now (w .entry)) t) ⌝ }
 {
     if t == RETURN {
@@ -35,7 +35,7 @@ pub fn input_count(w: &[u16; WORDS], t: u16) -> u16
 }
 
 // All Return regions agree in types.
-pub fn target_type(w: &[u16; WORDS], t: u16, k: u16) -> u16
+pub fn target_input_type(w: &[u16; WORDS], t: u16, k: u16) -> u16
     ensures { λ a. ⌜ OfRecord (now (w .entry)) (λ g. a ≡ words.«target-type» g (now (w .entry)) t k) ⌝ }
 {
     if t == RETURN {

@@ -122,7 +122,7 @@ fn given_inputs(w: &[u16; WORDS], p: u16) -> [u16; 4]
 }
 
 // The region that bundle i of region r's set claimed, and the others of that set.
-pub fn fill_split(w: &mut [u16; WORDS], r: u16, i: u16)
+pub fn fill_claimed_and_others(w: &mut [u16; WORDS], r: u16, i: u16)
     ensures { λ _. ⌜ OfRecord (now (w .entry)) (λ g. now (w .exit) ≡ words.«split-filled» g (now (w .entry)) r i) ⌝ }
 {
     let start = set_start(w, r);

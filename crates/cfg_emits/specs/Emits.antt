@@ -13,7 +13,7 @@ use Rattle.state_sets.specs.SetTables.{input-word, input-stored, bundle-at}
 use Rattle.state_nodes.specs.NodeTables.{OutputDefined, MergeDefined}
 use Rattle.state_words.specs.Values.{undef-word, output-word}
 use Rattle.cfg_bundles.specs.EdgesAndCases.{input-count, target-type}
-use Rattle.cfg_planning.specs.Planning.{per-case-deferred, per-case-condition, to-merge}
+use Rattle.cfg_planning.specs.Planning.{per-case-deferred, per-case-condition, to-merge, to-define}
 use Rattle.state_words.specs.declared.defined.Made.{Made}
 use Rattle.state_words.specs.declared.defined.Made.the-variants.{Done, Full}
 use Rattle.cfg_select_nodes.specs.Turns.{Steps, Turns}
@@ -52,11 +52,11 @@ EmitInputs g node q places l l′ a = Turns (EmitInput g node q (target-at l q) 
 
 -- ---- Its condition, by the select's cell h.
 pub data EmitCondition (h q : ℕ) (places l l′ : List ℕ) : Made → Type 0 where
-  condition-there : (bundle-condition l q ≡ 0 → ⊥) → l′ ≡ l → EmitCondition h q places l l′ Done
-  condition-made : {l₁ parts : List ℕ} {c : ℕ} → bundle-condition l q ≡ 0 → ConditionsIn l places parts
+  condition-there : (bundle-condition l q ≡ to-define → ⊥) → l′ ≡ l → EmitCondition h q places l l′ Done
+  condition-made : {l₁ parts : List ℕ} {c : ℕ} → bundle-condition l q ≡ to-define → ConditionsIn l places parts
       → MergeDefined h parts l l₁ (Number c)
       → l′ ≡ stored l₁ bundles (bundle-condition-at q) c → EmitCondition h q places l l′ Done
-  no-condition : {parts : List ℕ} → bundle-condition l q ≡ 0 → ConditionsIn l places parts
+  no-condition : {parts : List ℕ} → bundle-condition l q ≡ to-define → ConditionsIn l places parts
       → MergeDefined h parts l l′ Refused
       → EmitCondition h q places l l′ Full
 

@@ -2,8 +2,8 @@
 ghost use mathlib.Core.Path.{_≡_};
 ghost use Rattle.record.specs.Stands.{OfRecord};
 ghost use Rattle.cfg_emits.specs.Emits as words;
-use cfg_bundles::bundles::input_count;
-use cfg_bundles::bundles::target_type;
+use cfg_bundles::bundles::target_input_count;
+use cfg_bundles::bundles::target_input_type;
 use cfg_planning::planning::TO_DEFINE;
 use cfg_planning::planning::TO_MERGE;
 use cfg_planning::planning::per_case_condition;
@@ -61,7 +61,7 @@ fn emit_input(w: &mut [u16; WORDS], node: u16, q: u16, t: u16, places: &[u16; 8]
     if target_input(w, q, k) != TO_MERGE {
         return Made::Done;
     }
-    let ty = target_type(w, t, k);
+    let ty = target_input_type(w, t, k);
     let vs = values_in_cases(w, places, k, ty);
     match define_output(w, node, ty, &vs) {
         Defined::Full => Made::Full,
@@ -76,7 +76,7 @@ fn emit_inputs(w: &mut [u16; WORDS], node: u16, q: u16, places: &[u16; 8]) -> Ma
     ensures { λ a. ⌜ OfRecord (now (w .entry)) (λ g. words.EmitInputs g node q (now (places .entry)) (now (w .entry)) (now (w .exit)) a) ⌝ }
 {
     let t = target(w, q);
-    let n = input_count(w, t);
+    let n = target_input_count(w, t);
     let mut k: u16 = 0;
     while k < n {
         if let Made::Full = emit_input(w, node, q, t, places, k) {
@@ -130,7 +130,7 @@ fn emit_bundle(w: &mut [u16; WORDS], h: u16, q: u16) -> Made
 }
 
 // In the order of the select's deferred targets.
-pub fn emit(w: &mut [u16; WORDS], h: u16) -> Made
+pub fn emit_bundles(w: &mut [u16; WORDS], h: u16) -> Made
     ensures { λ a. ⌜ OfRecord (now (w .entry)) (λ g. words.Emits g h (now (w .entry)) (now (w .exit)) a) ⌝ }
 {
     let start = set_start(w, SPARE);

@@ -17,12 +17,12 @@ use state_words::edges::ONE;
 use store::WORDS;
 
 // Tells its caller how long the array is: it lends the array as a slice, and compiles to nothing.
-fn span(counts: &[u32]) {}
+fn tells_length(counts: &[u32]) {}
 
 pub fn count_of(counts: &[u32; 32], r: u16) -> IncomingEdgeCount
     ensures { λ a. ⌜ a .0 ≡ getD (now (counts .entry)) r 0 ⌝ }
 {
-    span(counts);
+    tells_length(counts);
     if r < 32 {
         return IncomingEdgeCount(counts[r as usize]);
     }
@@ -33,7 +33,7 @@ fn add_one(counts: &mut [u32; 32], r: u16)
     requires { ⌜ AtMost (now counts) 4294967294 ⌝ }
     ensures { λ _. ⌜ OneMore (now (counts .entry)) (now (counts .exit)) r ⌝ }
 {
-    span(counts);
+    tells_length(counts);
     if r < 32 {
         let i = r as usize;
         let n = IncomingEdgeCount(counts[i]).plus(ONE);
@@ -102,7 +102,7 @@ fn push_targets(w: &[u16; WORDS], r: u16, todo: &mut [u16; 264], depth: usize) -
     ensures { λ a. ⌜ OfRecord (now (w .entry)) (λ g. length (edges-of (region g r .terminator)) ≤ 8
         → before (now (todo .exit)) a ≡ targets-of g r ++ before (now (todo .entry)) depth) ⌝ }
 {
-    store::span(todo);
+    store::tells_length(todo);
     let mut left = few_targets(w, r);
     let mut at = depth;
     while 0 < left {

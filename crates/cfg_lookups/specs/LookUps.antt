@@ -10,7 +10,7 @@ use Rattle.state_words.specs.Values.{is-input, is-held, input-region, input-ind
 use Rattle.cfg_lookups.specs.declared.look_up.LookUp.{LookUp}
 use Rattle.meaning.specs.Lists.{pick}
 use Rattle.nesting.specs.Nesting.{most-regions}
-use Rattle.state_words.specs.Rows.{entry-none, entry-renumber, rewrite-value, twice-at}
+use Rattle.state_words.specs.Rows.{entry-none, entry-renumber, rewrite-value, twice-at, entry-replace}
 
 abbrev pub plain : ℕ → LookUp
 plain x = record { value = x; twice = false }
@@ -23,7 +23,7 @@ abbrev pub entry-at : List ℕ → ℕ → ℕ
 entry-at l x = rewrite-value l (input-region x) (input-index x)
 
 unfoldable pub changes-again : List ℕ → ℕ → Bool
-changes-again l v = pick (eqb (kind-at l v) 0) false (pick (eqb (kind-at l v) 1) true (not (eqb (entry-at l v) v)))
+changes-again l v = pick (eqb (kind-at l v) entry-none) false (pick (eqb (kind-at l v) entry-replace) true (not (eqb (entry-at l v) v)))
 
 unfoldable pub stays : List ℕ → ℕ → LookUp
 stays l v = record { value = v; twice = pick (is-held v) (changes-again l v) false }

@@ -7,14 +7,15 @@ use lib.ListN.{getD, set, replicate}
 use lib.Dec.{eqb}
 use Rattle.state_words.specs.declared.defined.Defined.{Defined}
 use Rattle.state_words.specs.declared.defined.Defined.the-variants.{Number, Full}
-use Rattle.state_words.specs.Values.{output-word, undef-word}
+use Rattle.state_words.specs.Values.{output-word, undef-word, true-word, false-word}
 use Rattle.state_nodes.specs.NodeTables.{earlier-part, shape-size, OutputDefined}
 use Rattle.meaning.specs.Lists.{pick}
 use Rattle.state_words.specs.Values.{undef-from}
-use Rattle.state_words.specs.Rows.{merge-node, merge-part, merge-scrutinee, merge-shape}
+use Rattle.state_words.specs.Rows.{merge-node, merge-part, merge-scrutinee, merge-shape, bool-shape, condition-true, condition-false}
+use Rattle.state_words.specs.Rows.{merges-from}
 
 unfoldable pub is-scrutinee : ℕ → List ℕ → Bool
-is-scrutinee shape vs = pick (eqb shape 0) (pick (eqb (getD vs 0 0) 65) (eqb (getD vs 1 0) 64) false) false
+is-scrutinee shape vs = pick (eqb shape bool-shape) (pick (eqb (getD vs 0 0) true-word) (eqb (getD vs 1 0) false-word) false) false
 
 abbrev pub shape-at : List ℕ → ℕ → ℕ
 shape-at l c = merge-shape l c
@@ -33,12 +34,12 @@ pub data Merges (l : List ℕ) (c : ℕ) (vs l′ : List ℕ) : Defined → Type
 mutual
   -- From words l condition c is made real; l′ are the words then.
   pub data Materializes : List ℕ → ℕ → List ℕ → Defined → Type 0 where
-    made-true : {l l′ : List ℕ} {c : ℕ} → c ≡ 1 → l′ ≡ l → Materializes l c l′ (Number 65)
-    made-false : {l l′ : List ℕ} {c : ℕ} → c ≡ 2 → l′ ≡ l → Materializes l c l′ (Number 64)
-    made-undef : {l l′ : List ℕ} {c x : ℕ} → (c ≡ 1 → ⊥) → (c ≡ 2 → ⊥) → c < 4 → x ≡ undef-word 1 → l′ ≡ l → Materializes l c l′ (Number x)
-    made-merge : {l l₁ l′ vs : List ℕ} {c : ℕ} {a : Defined} → 4 ≤ c → PartsMade l c (shape-size (shape-at l c)) l₁ vs
+    made-true : {l l′ : List ℕ} {c : ℕ} → c ≡ condition-true → l′ ≡ l → Materializes l c l′ (Number true-word)
+    made-false : {l l′ : List ℕ} {c : ℕ} → c ≡ condition-false → l′ ≡ l → Materializes l c l′ (Number false-word)
+    made-undef : {l l′ : List ℕ} {c x : ℕ} → (c ≡ condition-true → ⊥) → (c ≡ condition-false → ⊥) → c < merges-from → x ≡ undef-word 1 → l′ ≡ l → Materializes l c l′ (Number x)
+    made-merge : {l l₁ l′ vs : List ℕ} {c : ℕ} {a : Defined} → merges-from ≤ c → PartsMade l c (shape-size (shape-at l c)) l₁ vs
         → Merges l₁ c vs l′ a → Materializes l c l′ a
-    full-part : {l l₁ l′ vs : List ℕ} {c j p : ℕ} → 4 ≤ c → j < shape-size (shape-at l c) → PartsMade l c j l₁ vs → p ≡ part-at l₁ c j
+    full-part : {l l₁ l′ vs : List ℕ} {c j p : ℕ} → merges-from ≤ c → j < shape-size (shape-at l c) → PartsMade l c j l₁ vs → p ≡ part-at l₁ c j
         → Materializes l₁ p l′ Full
         → Materializes l c l′ Full
 

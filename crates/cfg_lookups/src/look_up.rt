@@ -92,7 +92,7 @@ pub fn look_up(w: &[u16; WORDS], v: u16) -> LookUp
 }
 
 // The step that looks up takes the note.
-pub fn rewrite(w: &mut [u16; WORDS], v: u16) -> u16
+pub fn look_up_noting(w: &mut [u16; WORDS], v: u16) -> u16
     ensures { λ a. ⌜ words.Rewrites (now (w .entry)) v (now (w .exit)) a ⌝ }
 {
     let x = look_up(w, v);

@@ -2,7 +2,7 @@
 ghost use mathlib.Core.Path.{_≡_};
 ghost use Prim.Native.Nat.{_≤_};
 ghost use Rattle.cfg_loops.specs.Inputs as words;
-use cfg_lookups::look_up::rewrite;
+use cfg_lookups::look_up::look_up_noting;
 use state_nodes::cells::Cell;
 use state_nodes::cells::add_cell;
 use state_sets::sets::target_input;
@@ -33,7 +33,7 @@ fn rewrite_value(w: &mut [u16; WORDS], n: u16, k: u16, v: u16) -> u16
     ensures { λ a. ⌜ words.RewritesValue n k v (now (w .entry)) (now (w .exit)) a ⌝ }
 {
     if k < n {
-        return rewrite(w, v);
+        return look_up_noting(w, v);
     }
     v
 }

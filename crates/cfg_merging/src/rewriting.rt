@@ -2,8 +2,8 @@
 ghost use mathlib.Core.Path.{_≡_};
 ghost use Rattle.record.specs.Stands.{OfRecord};
 ghost use Rattle.cfg_merging.specs.Rewriting as words;
-use cfg_bundles::bundles::input_count;
-use cfg_lookups::look_up::rewrite;
+use cfg_bundles::bundles::target_input_count;
+use cfg_lookups::look_up::look_up_noting;
 use state_regions::cases::CLAIMED_REGION;
 use state_regions::cases::case_count;
 use state_regions::cases::case_input;
@@ -22,14 +22,14 @@ fn rewrite_input(w: &mut [u16; WORDS], p: u16, k: u16)
     ensures { λ _. ⌜ now (w .exit) ≡ words.«rewrite-input» (now (w .entry)) p k ⌝ }
 {
     let v = target_input(w, p, k);
-    let x = rewrite(w, v);
+    let x = look_up_noting(w, v);
     set_target_input(w, p, k, x);
 }
 
 fn rewrite_bundle(w: &mut [u16; WORDS], p: u16)
     ensures { λ _. ⌜ OfRecord (now (w .entry)) (λ g. now (w .exit) ≡ words.«rewrite-bundle» g (now (w .entry)) p) ⌝ }
 {
-    let n = input_count(w, target(w, p));
+    let n = target_input_count(w, target(w, p));
     let mut k: u16 = 0;
     while k < n {
         rewrite_input(w, p, k);
@@ -51,7 +51,7 @@ fn rewrite_case_input(w: &mut [u16; WORDS], j: u16, k: u16)
     ensures { λ _. ⌜ now (w .exit) ≡ words.«rewrite-case-input» (now (w .entry)) j k ⌝ }
 {
     let v = case_input(w, j, k);
-    let x = rewrite(w, v);
+    let x = look_up_noting(w, v);
     set_case_input(w, j, k, x);
 }
 

@@ -31,6 +31,10 @@ per-case-condition l j p =
 abbrev pub to-merge : ℕ
 to-merge = 65535
 
+-- A condition that is still to be defined.
+abbrev pub to-define : ℕ
+to-define = 0
+
 unfoldable pub in-parent : List ℕ → ℕ → ℕ → ℕ
 in-parent l j v =
     let of-body = pick (eqb (input-region v) (case-body l j)) (case-input l j (input-index v)) to-merge in

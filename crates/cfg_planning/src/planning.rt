@@ -3,7 +3,7 @@ ghost use mathlib.Core.Path.{_≡_};
 ghost use Rattle.record.specs.Stands.{OfRecord};
 ghost use Rattle.cfg_planning.specs.Planning as words;
 use cfg_bundles::bundles::condition_in;
-use cfg_bundles::bundles::input_count;
+use cfg_bundles::bundles::target_input_count;
 use state_nodes::conditions::FALSE_COND;
 use state_nodes::conditions::TRUE_COND;
 use state_nodes::conditions::UNDEF_COND;
@@ -154,7 +154,7 @@ fn plan_inputs(w: &mut [u16; WORDS], q: u16, places: &[u16; 8]) -> bool
     ensures { λ a. ⌜ OfRecord (now (w .entry)) (λ g.
         words.planned (now (w .exit)) a ≡ words.«plan-inputs» g (now (w .entry)) q (now (places .entry))) ⌝ }
 {
-    let n = input_count(w, target(w, q));
+    let n = target_input_count(w, target(w, q));
     let mut merged = false;
     let mut k: u16 = 0;
     while k < n {

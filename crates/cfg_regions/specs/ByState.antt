@@ -13,7 +13,8 @@ use Rattle.state_words.specs.declared.defined.Made.the-variants.{Done, Full}
 use Rattle.cfg_loops.specs.Loops.{StructurizesLoop}
 use Rattle.cfg_regions.specs.declared.claim.Claim.{Claim}
 use Rattle.cfg_regions.specs.declared.claim.Claim.the-variants.{Claimed, Unclaimed, Refused}
-use Rattle.state_words.specs.Rows.{kind-claimed, kind-in-progress, kind-ready, no-bundle-word, region-kind}
+use Rattle.state_words.specs.Rows.{kind-claimed, kind-in-progress, kind-ready, no-bundle-word, region-kind, level-unreachable}
+use Rattle.state_words.specs.Rows.{level-deferred}
 use Rattle.store.specs.declared.refusals.Refusal.the-variants.{TooMany, AlreadyClaimed}
 
 abbrev pub claim-of : Made → Claim
@@ -49,4 +50,4 @@ is-trivial w t = pick (eqb (region-kind w t) kind-ready) (pick (eqb (word w set-
 
 -- How the edge to a region that was not claimed is answered.
 abbrev pub unclaimed-word : List ℕ → ℕ → ℕ
-unclaimed-word w t = pick (is-trivial w t) 0 1
+unclaimed-word w t = pick (is-trivial w t) level-unreachable level-deferred

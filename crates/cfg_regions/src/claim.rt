@@ -32,7 +32,7 @@ pub enum Claim {
     Refused(Refusal),
 }
 
-fn claim_of(made: Made) -> Claim
+fn claim_from_made(made: Made) -> Claim
     ensures { λ a. ⌜ a ≡ words.«claim-of» made ⌝ }
 {
     match made {
@@ -61,7 +61,7 @@ fn claim_body(w: &mut [u16; WORDS], r: u16) -> Claim
     if p == NO_BUNDLE {
         return Claim::Claimed;
     }
-    claim_of(structurize_loop(w, r, p))
+    claim_from_made(structurize_loop(w, r, p))
 }
 
 // Target, accumulated count, its incoming count: refusal 12 where the Rust stops.

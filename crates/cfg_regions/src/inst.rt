@@ -9,7 +9,7 @@ use cfg_bundles::append::append_maybe_claimed_region;
 use cfg_bundles::bundles::condition_in;
 use cfg_bundles::bundles::defer_return;
 use cfg_cases::cases::fill_cases;
-use cfg_cases::cases::fill_split;
+use cfg_cases::cases::fill_claimed_and_others;
 use cfg_select_nodes::define::Scrutinee;
 use cfg_selects::into::structurize_select_into;
 use fields::Terminator;
@@ -131,7 +131,7 @@ pub fn resolve_by(w: &mut [u16; WORDS], r: u16, i: u16) -> Made
     let n = set_length(w, r);
     let p = own_bundle(w, r, i);
     let condition = condition_in(w, p, n);
-    fill_split(w, r, i);
+    fill_claimed_and_others(w, r, i);
     structurize_select_into(w, r, BOOL_COND, Scrutinee::Lazy(condition))
 }
 

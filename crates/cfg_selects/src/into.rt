@@ -6,7 +6,7 @@ ghost use Rattle.record.specs.Stands.{OfRecord};
 ghost use Rattle.cfg_selects.specs.Into as words;
 use cfg_bundles::append::append_maybe_claimed_region;
 use cfg_cases::cases::unclaimed_case;
-use cfg_emits::emit::emit;
+use cfg_emits::emit::emit_bundles;
 use cfg_merging::rewriting::rewrite_cases;
 use cfg_merging::targets::deferred_targets;
 use cfg_planning::planning::plan_bundles;
@@ -43,7 +43,7 @@ fn select_if(w: &mut [u16; WORDS], needed: bool, r: u16, shape: u16, scrutinee: 
     }
     match define_select(w, r, shape, scrutinee) {
         Defined::Full => Made::Full,
-        Defined::Number(h) => emit(w, h),
+        Defined::Number(h) => emit_bundles(w, h),
     }
 }
 

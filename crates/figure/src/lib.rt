@@ -20,7 +20,7 @@ use store::WORDS;
 pub const TOO_LARGE: u64 = 4294967296;
 
 // A sum, or the first number beyond.
-fn at_most(n: u64) -> u64
+fn held_at_limit(n: u64) -> u64
     ensures { λ a. ⌜ a ≡ figured.capped n ⌝ }
 {
     if n < TOO_LARGE {
@@ -88,18 +88,18 @@ fn cell_figure(w: &[u16; WORDS], h: u16) -> u64
 {
     let tag = cell_tag(w, h);
     if tag == BLOCKS {
-        return at_most(blocks_figure(w, blocks_region(w, h)));
+        return held_at_limit(blocks_figure(w, blocks_region(w, h)));
     }
     if tag == JOIN {
         return figure(w, join_list(w, h));
     }
     let test = fields::test_cost(w) as u64;
     if tag == SELECT {
-        return at_most(test + dearest(w, select_cases(w, h)));
+        return held_at_limit(test + dearest(w, select_cases(w, h)));
     }
     if tag == LOOP {
         let limit = fields::limit(w, loop_header(w, h)) as u64;
-        return at_most(limit * (figure(w, loop_body(w, h)) + test));
+        return held_at_limit(limit * (figure(w, loop_body(w, h)) + test));
     }
     0
 }
@@ -111,7 +111,7 @@ pub fn figure(w: &[u16; WORDS], list: u16) -> u64
     let mut sum: u64 = 0;
     let mut h = list;
     while 0 < h {
-        sum = at_most(sum + cell_figure(w, h));
+        sum = held_at_limit(sum + cell_figure(w, h));
         h = list_before(w, h);
     }
     sum

@@ -23,7 +23,7 @@ use store::refusals::FIGURE_TOO_LARGE;
 use store::refusals::TOO_FEW_WORDS;
 use store::refusals::number;
 use store::refusals::word;
-use store::span;
+use store::tells_length;
 
 // How many words the sheet has, or a refusal's number and its word.
 pub enum SheetAnswer {
@@ -32,7 +32,7 @@ pub enum SheetAnswer {
 }
 
 // Refused where the lent words are too few.
-fn written(w: &[u16; WORDS], out: &mut [u32], outcome: u16, figure: u32) -> SheetAnswer
+fn write_or_refuse(w: &[u16; WORDS], out: &mut [u32], outcome: u16, figure: u32) -> SheetAnswer
     ensures { λ a. ⌜ answers.WritesAnswer (now (w .entry)) outcome figure (now (out .entry)) (now (out .exit)) a ⌝ }
 {
     match write_sheet(w, out, outcome, figure) {
@@ -42,14 +42,14 @@ fn written(w: &[u16; WORDS], out: &mut [u32], outcome: u16, figure: u32) -> Shee
 }
 
 // A whole or closed form, refused where its figure exceeds 4,294,967,295.
-fn formed(w: &[u16; WORDS], out: &mut [u32], outcome: u16) -> SheetAnswer
+fn write_with_figure(w: &[u16; WORDS], out: &mut [u32], outcome: u16) -> SheetAnswer
     ensures { λ a. ⌜ answers.FormsAnswer (now (w .entry)) outcome (now (out .entry)) (now (out .exit)) a ⌝ }
 {
     let cost = figure(w, children(w, fields::entry(w)));
     if cost == TOO_LARGE {
         return SheetAnswer::Refused(FIGURE_TOO_LARGE, 0);
     }
-    written(w, out, outcome, cost as u32)
+    write_or_refuse(w, out, outcome, cost as u32)
 }
 
 // The refusal as a user reads it.
@@ -66,10 +66,10 @@ fn nest_record(w: &mut [u16; WORDS], out: &mut [u32]) -> SheetAnswer
         → answers.NestsRecord g (now (w .entry)) (now (w .exit)) (now (out .entry)) (now (out .exit)) a) ⌝ }
 {
     match structurize_func(w) {
-        Nested::Untouched => written(w, out, UNTOUCHED, 0),
-        Nested::Whole => formed(w, out, WHOLE),
-        Nested::Closed => formed(w, out, CLOSED),
-        Nested::Leftover => written(w, out, LEFTOVER, 0),
+        Nested::Untouched => write_or_refuse(w, out, UNTOUCHED, 0),
+        Nested::Whole => write_with_figure(w, out, WHOLE),
+        Nested::Closed => write_with_figure(w, out, CLOSED),
+        Nested::Leftover => write_or_refuse(w, out, LEFTOVER, 0),
         Nested::Refused(why) => refused(why),
     }
 }
@@ -77,7 +77,7 @@ fn nest_record(w: &mut [u16; WORDS], out: &mut [u32]) -> SheetAnswer
 pub fn nest(bytes: &[u8], w: &mut [u16; WORDS], out: &mut [u32]) -> SheetAnswer
     ensures { λ a. ⌜ Nests (now (bytes .entry)) (now (w .entry)) (now (w .exit)) (now (out .entry)) (now (out .exit)) a ⌝ }
 {
-    span(w);
+    tells_length(w);
     match accept::accept(bytes, w) {
         Accepted::Record => nest_record(w, out),
         Accepted::Refused(number, word) => SheetAnswer::Refused(number, word),

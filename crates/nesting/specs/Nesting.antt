@@ -13,7 +13,7 @@ use Rattle.meaning.specs.Runs.{Nodes, ⟨⟩, _▸_, block, select, Cases, ∅,
 use Rattle.meaning.specs.Runs.{Node}
 use Rattle.format.specs.References.{return-types}
 use Rattle.format.specs.Store.{Answer, accepted, refused}
-use Rattle.format.specs.Refusals.{too-many, already-claimed}
+use Rattle.format.specs.Refusals.{too-many, already-claimed, never}
 
 -- ---- Deferred edges: what a region could not claim, each with the condition under which it is taken.
 -- A number of edges. It counts edges only and is never an index.
@@ -728,7 +728,7 @@ module _ (g : Graph) where
 
   -- target, accumulated count, inputs, its incoming count, its state. 0, not begun, and 12, the Rust stops, are never met (`refused-nine`).
   abbrev pub claim-by-state : ℕ → IncomingEdgeCount → List Value → IncomingEdgeCount → StructurizeRegionState → Step (Option ClaimedRegion)
-  claim-by-state r n inputs incoming not-begun = turn-away 0 r
+  claim-by-state r n inputs incoming not-begun = turn-away never r
   claim-by-state r n inputs incoming claimed = turn-away already-claimed r
   claim-by-state r n inputs incoming in-progress = elim (eqb incoming n) [ false ↦ give none | true ↦ turn-away already-claimed r ]
   claim-by-state r n inputs incoming (ready b children d) =
@@ -786,7 +786,7 @@ module _ (g : Graph) where
 
   -- `counts` are the incoming counts. Fuel is one more than the regions not begun, so refusal 0 is never met (`refused-nine`).
   unfoldable pub try-claim-edge-bundle : List IncomingEdgeCount → ℕ → Claim
-  try-claim-edge-bundle counts zero r n inputs = turn-away 0 r
+  try-claim-edge-bundle counts zero r n inputs = turn-away never r
   try-claim-edge-bundle counts (suc fuel) r n inputs =
       count-attempt >> get-state r >>= λ x.
       begin x (structurize-region (λ r′ n′ inputs′. try-claim-edge-bundle counts fuel r′ n′ inputs′) r)
@@ -912,7 +912,7 @@ module _ (g : Graph) (s : NestState) where
 -- The entry is always claimed, for its incoming count is 1: refusal 0 is never met (`refused-nine`).
 unfoldable pub conclude : Graph → StepAnswer (Option ClaimedRegion) → Answer Nested
 conclude g (turned-away n w) = refused n w
-conclude g (done none s) = refused 0 0
+conclude g (done none s) = refused never 0
 conclude g (done (some c) s) = accepted (conclude-by g s (c .children) (c .deferred-edges) (outcome-of (c .deferred-edges)))
 
 -- An untouched record has an entry count other than 1: nothing is structurized.

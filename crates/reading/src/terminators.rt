@@ -14,7 +14,7 @@ use crate::words::within;
 use crate::words::words;
 use store::WORDS;
 use store::layout::word_at;
-use store::span;
+use store::tells_length;
 ghost use mathlib.Core.Path.{_≡_};
 ghost use Prim.Native.Nat.{ℕ, _+_, _<_};
 ghost use Rattle.format.specs.Read as read;
@@ -131,7 +131,7 @@ fn passes(w: &[u16; WORDS], from: Cursor, n: u16) -> Step
 fn edges(w: &[u16; WORDS], c: Cursor, n: u16) -> Step
     ensures { λ r. ⌜ r ≡ step-at (edges-lists n) (now (w .entry)) c ⌝ }
 {
-    span(w);
+    tells_length(w);
     match words(w, c, n) {
         Step::Bad(m) => Step::Bad(m),
         Step::At(e) => {

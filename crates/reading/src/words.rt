@@ -8,7 +8,7 @@ use store::WORDS;
 use store::layout::word_at;
 use store::refusals::OUT_OF_RANGE;
 use store::refusals::WRONG_WORD_COUNT;
-use store::span;
+use store::tells_length;
 
 // Where reading stands: the next word to read, and the end of the record's words.
 pub struct Cursor {
@@ -32,7 +32,7 @@ pub enum Step {
 pub fn word(w: &[u16; WORDS], c: Cursor) -> Item
     ensures { λ r. ⌜ r ≡ item-at read.word (now (w .entry)) c ⌝ }
 {
-    span(w);
+    tells_length(w);
     let at = c.at;
     let end = c.end;
     if end <= at {

@@ -7,7 +7,7 @@ use store::layout::LIMIT;
 use store::layout::RECORD_END;
 use store::layout::ROW;
 use store::layout::START;
-use store::span;
+use store::tells_length;
 ghost use Prim.Native.Nat.{_+_, _≤_, _<_};
 ghost use lib.ListN.{getD};
 ghost use Rattle.store.specs.Layout.{row-words, index-at, index-end};
@@ -17,7 +17,7 @@ fn store_blocks(w: &mut [u16; WORDS], at: usize, places: [u16; 8])
     requires { ⌜ at + 8 ≤ index-end ⌝ }
     ensures { λ _. ⌜ Row (now (w .entry)) (now (w .exit)) at 8 (λ k. getD places k 0) ⌝ }
 {
-    span(w);
+    tells_length(w);
     let mut b: usize = 0;
     while b < 8 {
         w[at + b] = places[b];
@@ -26,11 +26,11 @@ fn store_blocks(w: &mut [u16; WORDS], at: usize, places: [u16; 8])
 }
 
 // The places of region r, which begins at start.
-pub fn store(w: &mut [u16; WORDS], r: u16, start: u16, x: RegionPlaces)
+pub fn put_places(w: &mut [u16; WORDS], r: u16, start: u16, x: RegionPlaces)
     requires { ⌜ r < 32 ⌝ }
     ensures { λ _. ⌜ Row (now (w .entry)) (now (w .exit)) (index-at r) row-words (row-of start x) ⌝ }
 {
-    span(w);
+    tells_length(w);
     let at = RECORD_END + ROW * r as usize;
     let limit = x.limit;
     let exits = x.exits;

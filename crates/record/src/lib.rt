@@ -2,9 +2,9 @@
 mod index;
 pub mod regions;
 
-use crate::index::store;
-use crate::regions::head;
-use crate::regions::region;
+use crate::index::put_places;
+use crate::regions::read_head;
+use crate::regions::read_region;
 use reading::words::Cursor;
 use reading::words::Item;
 use reading::words::Step;
@@ -14,7 +14,7 @@ use store::WORDS;
 use store::layout::RECORD_END;
 use store::layout::word_at;
 use store::refusals::OUT_OF_RANGE;
-use store::span;
+use store::tells_length;
 ghost use mathlib.Core.Path.{_≡_};
 ghost use Prim.Native.Nat.{_≤_};
 ghost use Rattle.format.specs.Store.{refused};
@@ -42,16 +42,16 @@ fn read_regions(w: &mut [u16; WORDS], from: Cursor, n: u16) -> Verdict
     requires { ⌜ (from .end ≤ record-end) × (n ≤ 32) ⌝ }
     ensures { λ a. ⌜ RegionsOutcome n (from .end) (from .at) (now (w .entry)) (now (w .exit)) a ⌝ }
 {
-    span(w);
+    tells_length(w);
     let mut r: u16 = 0;
     let mut c = from;
     while r < n {
-        let x = region(w, c);
+        let x = read_region(w, c);
         let step = x.step;
         match step {
             Step::Bad(m) => return refusal(m, r),
             Step::At(e) => {
-                store(w, r, c.at as u16, x);
+                put_places(w, r, c.at as u16, x);
                 c = e;
                 r += 1;
             }
@@ -67,13 +67,13 @@ fn read_regions(w: &mut [u16; WORDS], from: Cursor, n: u16) -> Verdict
 pub fn read_record(w: &mut [u16; WORDS]) -> Verdict
     ensures { λ a. ⌜ ReadOutcome (now (w .entry)) (now (w .exit)) a ⌝ }
 {
-    span(w);
+    tells_length(w);
     let count = word_at(w, 0) as usize;
     if RECORD_END < count {
         return Verdict::Refused(Refusal::WrongWordCount);
     }
     let first = Cursor { at: 1, end: count };
-    match head(w, first) {
+    match read_head(w, first) {
         Item::Bad(m) => refusal(m, 0),
         Item::Word(n, c) => read_regions(w, c, n),
     }

@@ -9,7 +9,7 @@ use reading::words::counted_words;
 use reading::words::within;
 use reading::words::word;
 use store::WORDS;
-use store::span;
+use store::tells_length;
 ghost use mathlib.Core.Path.{_≡_};
 ghost use Prim.Native.Nat.{_≤_};
 ghost use Rattle.reading.specs.Answers.{item-at, step-at};
@@ -35,7 +35,7 @@ fn blocks(w: &[u16; WORDS], from: Cursor, n: u16) -> BlockPlaces
     requires { ⌜ n ≤ 8 ⌝ }
     ensures { λ r. ⌜ BlocksRead n (now (w .entry)) from r ⌝ }
 {
-    span(w);
+    tells_length(w);
     let mut places = [0u16; 8];
     let mut i: u16 = 0;
     let mut c = from;
@@ -88,10 +88,10 @@ fn no_region(m: u16) -> RegionPlaces
 }
 
 // From the turn limit of a region on; its blocks stand at the places.
-fn ending(w: &[u16; WORDS], c: Cursor, places: [u16; 8]) -> RegionPlaces
+fn read_ending(w: &[u16; WORDS], c: Cursor, places: [u16; 8]) -> RegionPlaces
     ensures { λ r. ⌜ EndingRead (now (w .entry)) c places r ⌝ }
 {
-    span(w);
+    tells_length(w);
     match within(w, c, 1, 65535) {
         Item::Bad(m) => no_region(m),
         Item::Word(_, p) => match terminator(w, p) {
@@ -109,7 +109,7 @@ fn ending(w: &[u16; WORDS], c: Cursor, places: [u16; 8]) -> RegionPlaces
     }
 }
 
-pub fn region(w: &[u16; WORDS], c: Cursor) -> RegionPlaces
+pub fn read_region(w: &[u16; WORDS], c: Cursor) -> RegionPlaces
     ensures { λ r. ⌜ RegionPlacesRead (now (w .entry)) c r ⌝ }
 {
     match counted_types(w, c, 4) {
@@ -120,7 +120,7 @@ pub fn region(w: &[u16; WORDS], c: Cursor) -> RegionPlaces
             let places = b.places;
             match step {
                 Step::Bad(m) => no_region(m),
-                Step::At(q) => ending(w, q, places),
+                Step::At(q) => read_ending(w, q, places),
             }
         }
     }
@@ -140,7 +140,7 @@ fn after_count(w: &[u16; WORDS], c: Cursor) -> Step
 }
 
 // The region count and the cursor at the first region.
-pub fn head(w: &[u16; WORDS], c: Cursor) -> Item
+pub fn read_head(w: &[u16; WORDS], c: Cursor) -> Item
     ensures { λ r. ⌜ r ≡ item-at head-count (now (w .entry)) c ⌝ }
 {
     match within(w, c, 1, 32) {

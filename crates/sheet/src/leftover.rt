@@ -7,7 +7,7 @@ use state_regions::regions::READY;
 use state_regions::regions::region_state;
 use store::WORDS;
 
-fn put_ready(w: &[u16; WORDS], out: &mut [u32], at: Place, r: u16) -> Place
+fn put_if_ready(w: &[u16; WORDS], out: &mut [u32], at: Place, r: u16) -> Place
     ensures { λ a. ⌜ regions.PutsReady (now (w .entry)) r (now (out .entry)) at (now (out .exit)) a ⌝ }
 {
     if region_state(w, r) == READY {
@@ -23,13 +23,13 @@ fn put_unclaimed(w: &[u16; WORDS], out: &mut [u32], at: Place) -> Place
     let mut r = fields::region_count(w);
     while 0 < r {
         r -= 1;
-        e = put_ready(w, out, e, r);
+        e = put_if_ready(w, out, e, r);
     }
     e
 }
 
 // The set of region r, if the leftover gives it.
-fn put_given_set(w: &[u16; WORDS], out: &mut [u32], at: Place, r: u16) -> Place
+fn put_set_if_left(w: &[u16; WORDS], out: &mut [u32], at: Place, r: u16) -> Place
     ensures { λ a. ⌜ regions.PutsGivenSet (now (w .entry)) r (now (out .entry)) at (now (out .exit)) a ⌝ }
 {
     if r == fields::entry(w) {
@@ -48,7 +48,7 @@ fn put_sets(w: &[u16; WORDS], out: &mut [u32], at: Place) -> Place
     let mut r = fields::region_count(w);
     while 0 < r {
         r -= 1;
-        e = put_given_set(w, out, e, r);
+        e = put_set_if_left(w, out, e, r);
     }
     e
 }

@@ -3,7 +3,7 @@ ghost use Rattle.nesting.specs.Nesting.{DeferredEdgeBundle};
 ghost use Rattle.state_shown.specs.Sets.{ShowsBundle};
 ghost use Rattle.sheet_words.specs.Parts.{OfState, values-part};
 ghost use Rattle.sheet_words.specs.PutInFront.{Puts};
-use cfg_bundles::bundles::input_count;
+use cfg_bundles::bundles::target_input_count;
 use sheet_words::place::Place;
 use sheet_words::place::put_word;
 use sheet_words::value::put_value;
@@ -16,7 +16,7 @@ pub fn put_target_inputs(w: &[u16; WORDS], out: &mut [u32], at: Place, p: u16) -
     ensures { λ a. ⌜ OfState (now (w .entry)) (λ g s. (e : DeferredEdgeBundle) → ShowsBundle g (now (w .entry)) p e
         → Puts (now (out .entry)) at (values-part s (e .«target-inputs»)) (now (out .exit)) a) ⌝ }
 {
-    let n = input_count(w, target(w, p));
+    let n = target_input_count(w, target(w, p));
     let mut to = at;
     let mut k = n;
     while 0 < k {

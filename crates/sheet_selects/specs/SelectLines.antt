@@ -9,7 +9,7 @@ use Rattle.meaning.specs.Runs.{Nodes, Cases, case-count}
 use Rattle.nesting.specs.Nesting.{case-outputs}
 use Rattle.nesting.specs.SheetNumbers.{kind-bool, kind-num}
 use Rattle.state_words.specs.Sections.{section, cells}
-use Rattle.state_words.specs.Rows.{select-node, select-shape, select-scrutinee, select-cases, case-region, children-of-case}
+use Rattle.state_words.specs.Rows.{select-node, select-shape, select-scrutinee, select-cases, case-region, children-of-case, bool-shape}
 use Rattle.state_shown.specs.Values.{value}
 use Rattle.state_shown.specs.Tables.{ShowsShape}
 use Rattle.state_shown.specs.Cells.{ShowsNodes, ShowsCaseCells}
@@ -21,7 +21,7 @@ use Rattle.sheet_selects.specs.OwnOutputs.{ValuesShown}
 
 -- By a select's shape.
 unfoldable pub kind-word : ℕ → ℕ
-kind-word shape = pick (eqb shape 0) kind-bool kind-num
+kind-word shape = pick (eqb shape bool-shape) kind-bool kind-num
 
 -- The case of cell h, at place j of the node's.
 abbrev pub PutsCaseLine : List ℕ → ℕ → ℕ → ℕ → List ℕ → Place → List ℕ → Place → Type 0

@@ -13,7 +13,7 @@ use Rattle.state_words.specs.Sections.{outputs, conditions}
 use Rattle.meaning.specs.Lists.{pick}
 use Rattle.nesting.specs.Nesting.{most-regions, most-merges, most-outputs}
 use Rattle.state_words.specs.Values.{parts}
-use Rattle.state_words.specs.Rows.{cell-row-at, cell-word, cells-at, entries-at, entry-none}
+use Rattle.state_words.specs.Rows.{cell-row-at, cell-word, cells-at, entries-at, entry-none, bool-shape}
 use Rattle.state_words.specs.Rows.{merge-row-at, merge-select, merges-at, merges-from, most-cells}
 use Rattle.state_words.specs.Rows.{output-node-at, outputs-at, rewrite-kind-at, rewrite-values-at}
 use Rattle.state_words.specs.Rows.{tag-blocks, tag-case, tag-exit, tag-join, tag-kept, tag-loop, tag-select}
@@ -24,7 +24,7 @@ earlier-part p c = pick (ltb p c) p 1
 
 -- How many cases a select of this shape has.
 unfoldable pub shape-size : ℕ → ℕ
-shape-size shape = pick (eqb shape 0) 2 (pick (ltb shape 8) shape 8)
+shape-size shape = pick (eqb shape bool-shape) 2 (pick (ltb shape 8) shape 8)
 
 -- The six words of a cell: its tag, the list before it (of a loop: its body's; of a case: the cases after it), and what its tag has.
 abbrev pub cell-words : Cell → List ℕ

@@ -21,7 +21,7 @@ use Rattle.state_shown.specs.Values.{value}
 use Rattle.meaning.specs.Lists.{bit}
 use Rattle.format.specs.Refusals.{too-many}
 use Rattle.state_words.specs.Rows.{attempts-at, cells-at, condition-false, condition-true, condition-undef, entry-none, entry-renumber}
-use Rattle.state_words.specs.Rows.{entry-replace, merge-node, merge-part, merge-scrutinee, merge-select, merge-shape, merges-at}
+use Rattle.state_words.specs.Rows.{entry-replace, merge-node, merge-part, merge-scrutinee, merge-select, merge-shape, merges-at, bool-shape}
 use Rattle.state_words.specs.Rows.{merges-from}
 use Rattle.state_words.specs.Rows.{nodes-at, output-node-at, output-type-at, output-values-at, outputs-at, regions-at, rewrite-value-at}
 use Rattle.state_words.specs.Rows.{twice-at}
@@ -73,7 +73,7 @@ ShowsOutputs l os = (o : ℕ) → o < length os → ShowsOutput l o (getD os o n
 
 -- ---- Conditions: nine words for a record, which names the cell of its select; its parts are earlier ones.
 pub data ShowsShape (shape n : ℕ) : SelectionKind → Type 0 where
-  shape-bool : shape ≡ 0 → n ≡ 2 → ShowsShape shape n bool-cond
+  shape-bool : shape ≡ bool-shape → n ≡ 2 → ShowsShape shape n bool-cond
   shape-number : 1 ≤ shape → shape ≤ 8 → n ≡ shape → ShowsShape shape n number
 
 abbrev pub cond-count : LazyConds → ℕ

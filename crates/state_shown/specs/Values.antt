@@ -3,12 +3,13 @@ use Prim.Native.Nat.{ℕ, _-_, _/_, _%_}
 use lib.Dec.{ltb, eqb}
 use Rattle.meaning.specs.Graph.{Value, const, input, instr, output, bool, undef, held, no-value}
 use Rattle.state_words.specs.Values.{input-region, input-index, held-from, input-from, instr-from, names-nothing, output-from, undef-from}
+use Rattle.state_words.specs.Values.{true-word, bool-from}
 use Rattle.meaning.specs.Lists.{pick}
 
 unfoldable pub value : ℕ → Value
 value x =
-    pick (ltb x 64) (const x)
-    (pick (ltb x undef-from) (bool (eqb x 65))
+    pick (ltb x bool-from) (const x)
+    (pick (ltb x undef-from) (bool (eqb x true-word))
     (pick (ltb x output-from) (undef (x - undef-from))
     (pick (ltb x input-from) (output (x - output-from))
     (pick (ltb x held-from) (input (input-region x) (input-index x))

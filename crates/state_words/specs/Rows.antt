@@ -4,6 +4,7 @@ use mathlib.Core.List.{List}
 use Prim.Native.Nat.{ℕ, _+_, _*_}
 use lib.Dec.{ltb}
 use Rattle.meaning.specs.Lists.{pick}
+use Rattle.nesting.specs.SheetNumbers as sheet-numbers
 use Rattle.state_words.specs.Sections.{word, kinds, levels, cases, rewrites, outputs, conditions}
 use Rattle.state_words.specs.Sections.{cells, bundles}
 
@@ -97,8 +98,11 @@ case-kind-at j = case-word-at j 0
 abbrev pub case-origin-at : ℕ → ℕ
 case-origin-at j = case-word-at j 1
 
+abbrev pub case-body-field : ℕ
+case-body-field = 2
+
 abbrev pub case-body-at : ℕ → ℕ
-case-body-at j = case-word-at j 2
+case-body-at j = case-word-at j case-body-field
 
 abbrev pub case-children-at : ℕ → ℕ
 case-children-at j = case-word-at j 3
@@ -235,6 +239,10 @@ condition-undef = 3
 
 abbrev pub merges-from : ℕ
 merges-from = 4
+
+-- The shape of a select on a boolean; of a number, how many cases it has.
+abbrev pub bool-shape : ℕ
+bool-shape = 0
 
 -- ---- A cell: its tag, the list before it, and four words by its tag.
 abbrev pub cell-row-size : ℕ
@@ -373,14 +381,23 @@ bundle-word-at p i = bundle-row-size * p + i
 abbrev pub bundle-target-at : ℕ → ℕ
 bundle-target-at p = bundle-word-at p 0
 
+abbrev pub bundle-count-field : ℕ
+bundle-count-field = 1
+
 abbrev pub bundle-count-at : ℕ → ℕ
-bundle-count-at p = bundle-word-at p 1
+bundle-count-at p = bundle-word-at p bundle-count-field
+
+abbrev pub bundle-condition-field : ℕ
+bundle-condition-field = 2
 
 abbrev pub bundle-condition-at : ℕ → ℕ
-bundle-condition-at p = bundle-word-at p 2
+bundle-condition-at p = bundle-word-at p bundle-condition-field
+
+abbrev pub bundle-input-field : ℕ → ℕ
+bundle-input-field k = 3 + k
 
 abbrev pub bundle-input-at : ℕ → ℕ → ℕ
-bundle-input-at p k = bundle-word-at p (3 + k)
+bundle-input-at p k = bundle-word-at p (bundle-input-field k)
 
 abbrev pub bundle-word : List ℕ → ℕ → ℕ → ℕ
 bundle-word w p i = word w bundles (bundle-word-at p i)
@@ -413,12 +430,12 @@ own-edges-from = 1089
 abbrev pub most-bundles : ℕ
 most-bundles = 1097
 
--- No bundle; the target Return; the largest word.
+-- No bundle; the target Return, as a sheet has it; the largest word.
 abbrev pub no-bundle-word : ℕ
 no-bundle-word = 65535
 
 abbrev pub return-word : ℕ
-return-word = 65535
+return-word = sheet-numbers.return-word
 
 abbrev pub largest : ℕ
 largest = 65535

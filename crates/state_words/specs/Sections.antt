@@ -3,17 +3,43 @@ use mathlib.Core.List.{List, [], _∷_}
 use Prim.Native.Nat.{ℕ, zero, suc, _+_}
 use lib.ListN.{getD, set, take, drop}
 use lib.Dec.{ltb}
-use Rattle.meaning.specs.Lists.{pick, total}
+use Rattle.meaning.specs.Lists.{pick}
 use Rattle.store.specs.Layout.{index-end}
-
--- How many words each has, from the front on: the record and its index, then the tables of nesting.
-abbrev pub sizes : List ℕ
-sizes = index-end ∷ 16 ∷ 32 ∷ 32 ∷ 33 ∷ 33 ∷ 32 ∷ 32 ∷ 256 ∷ 80 ∷ 641 ∷ 5120 ∷ 4644 ∷ 3912 ∷ 7679 ∷ []
 
 pub data Section : Type 0 where
   front head kinds backedges set-starts set-lengths children bodies : Section
   levels cases rewrites outputs conditions cells bundles : Section
 
+-- Where each begins, and how many words it has: the record and its index, then the tables of nesting. laws/Apart shows that each begins
+-- where the one before it ends.
+abbrev pub table : Section → ℕ × ℕ
+table front = (0, index-end)
+table head = (index-end, 16)
+table kinds = (index-end + 16, 32)
+table backedges = (index-end + 48, 32)
+table set-starts = (index-end + 80, 33)
+table set-lengths = (index-end + 113, 33)
+table children = (index-end + 146, 32)
+table bodies = (index-end + 178, 32)
+table levels = (index-end + 210, 256)
+table cases = (index-end + 466, 80)
+table rewrites = (index-end + 546, 641)
+table outputs = (index-end + 1187, 5120)
+table conditions = (index-end + 6307, 4644)
+table cells = (index-end + 10951, 3912)
+table bundles = (index-end + 14863, 7679)
+
+abbrev pub start : Section → ℕ
+start k = table k .0
+
+abbrev pub size : Section → ℕ
+size k = table k .1
+
+-- How many words they have in all.
+abbrev pub used : ℕ
+used = start bundles + size bundles
+
+-- Its number, by which two are told apart.
 abbrev pub number : Section → ℕ
 number front = 0
 number head = 1
@@ -30,17 +56,6 @@ number outputs = 11
 number conditions = 12
 number cells = 13
 number bundles = 14
-
--- Where a section starts, and its size.
-abbrev pub start : Section → ℕ
-start k = total (λ n. n) (take (number k) sizes)
-
-abbrev pub size : Section → ℕ
-size k = getD sizes (number k) 0
-
--- How many words they have in all.
-abbrev pub used : ℕ
-used = total (λ n. n) sizes
 
 -- n words from o on; the word at i of them, 0 beyond; a word stored at i of them, none beyond.
 unfoldable pub part : ℕ → ℕ → List ℕ → List ℕ

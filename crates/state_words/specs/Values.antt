@@ -3,12 +3,23 @@ use mathlib.Core.Bool.{Bool, false}
 use Prim.Native.Nat.{ℕ, _+_, _*_, _-_, _/_, _%_}
 use lib.Dec.{ltb}
 use Rattle.meaning.specs.Lists.{pick}
+use Rattle.meaning.specs.Graph.{const-kind, input-kind, instr-kind, output-kind, bool-kind, undef-kind}
 use Rattle.fields.specs.declared.shape.Value.{Value}
 use Rattle.fields.specs.declared.shape.Value.the-variants.{Const, Input, Instr, Bool as Truth, Undef, Nothing}
 use Rattle.state_words.specs.declared.values.Parts.{Parts}
 use Rattle.nesting.specs.Nesting.{most-regions, most-outputs}
 
--- Where each range begins: undefined values, outputs, inputs, marked inputs, instructions; from the last on a word names nothing.
+-- Where each range begins, behind the constants: booleans, false before true; undefined values, outputs, inputs, marked inputs,
+-- instructions; from the last on a word names nothing.
+abbrev pub bool-from : ℕ
+bool-from = 64
+
+abbrev pub false-word : ℕ
+false-word = bool-from
+
+abbrev pub true-word : ℕ
+true-word = 65
+
 abbrev pub undef-from : ℕ
 undef-from = 66
 
@@ -49,10 +60,10 @@ input-index v = v % 4
 
 -- The words of values.
 unfoldable pub const-word : ℕ → ℕ
-const-word i = pick (ltb i 64) i names-nothing
+const-word i = pick (ltb i bool-from) i names-nothing
 
 abbrev pub bool-word : Bool → ℕ
-bool-word b = pick b 65 64
+bool-word b = pick b true-word false-word
 
 unfoldable pub instr-word : ℕ → ℕ → ℕ
 instr-word r k = pick (ltb r 32) (pick (ltb k 64) (instr-word-at r k) names-nothing) names-nothing
@@ -81,9 +92,9 @@ parts kind of index = record { kind = kind; of = of; index = index }
 
 unfoldable pub parts-of : ℕ → Parts
 parts-of v =
-    pick (ltb v 64) (parts 0 0 v)
-    (pick (ltb v undef-from) (parts 4 0 (v - 64))
-    (pick (ltb v output-from) (parts 5 0 (v - undef-from))
-    (pick (ltb v input-from) (parts 3 0 (v - output-from))
-    (pick (ltb v instr-from) (parts 1 (input-region v) (input-index v))
-    (pick (ltb v names-nothing) (parts 2 ((v - instr-from) / 64) (v % 64)) (parts 5 0 0))))))
+    pick (ltb v bool-from) (parts const-kind 0 v)
+    (pick (ltb v undef-from) (parts bool-kind 0 (v - bool-from))
+    (pick (ltb v output-from) (parts undef-kind 0 (v - undef-from))
+    (pick (ltb v input-from) (parts output-kind 0 (v - output-from))
+    (pick (ltb v instr-from) (parts input-kind (input-region v) (input-index v))
+    (pick (ltb v names-nothing) (parts instr-kind ((v - instr-from) / 64) (v % 64)) (parts undef-kind 0 0))))))

@@ -5,7 +5,7 @@ ghost use lib.ListN.{length};
 ghost use Rattle.state_words.specs.Sections as sections;
 use store::WORDS;
 use store::layout::INDEX_END;
-use store::span;
+use store::tells_length;
 
 // Where a section begins, and how many words it has.
 pub struct Section {
@@ -100,7 +100,7 @@ pub fn get(w: &[u16; WORDS], section: Section, i: usize) -> u16
     requires { ⌜ section .from + section .words ≤ sections.used ⌝ }
     ensures { λ a. ⌜ a ≡ sections.«read-at» (section .from) (section .words) (now (w .entry)) i ⌝ }
 {
-    span(w);
+    tells_length(w);
     let from = section.from;
     if i < section.words {
         return w[from + i];
@@ -112,7 +112,7 @@ pub fn put(w: &mut [u16; WORDS], section: Section, i: usize, x: u16)
     requires { ⌜ section .from + section .words ≤ sections.used ⌝ }
     ensures { λ _. ⌜ now (w .exit) ≡ sections.«stored-at» (section .from) (section .words) (now (w .entry)) i x ⌝ }
 {
-    span(w);
+    tells_length(w);
     let from = section.from;
     if i < section.words {
         w[from + i] = x;

@@ -26,13 +26,13 @@ pub const EXITS: usize = 2;
 pub const BLOCK_PLACES: usize = 3;
 
 // Tells its caller how long the array is: it lends the array as a slice, and compiles to nothing.
-pub fn span(words: &[u16]) {}
+pub fn tells_length(words: &[u16]) {}
 
 // The word at a place; beyond the lent words stands 0.
 pub fn word_at(w: &[u16; WORDS], p: usize) -> u16
     ensures { λ a. ⌜ a ≡ getD (now (w .entry)) p 0 ⌝ }
 {
-    span(w);
+    tells_length(w);
     if p < WORDS {
         return w[p];
     }

@@ -12,7 +12,7 @@ pub mod layout;
 pub mod refusals;
 
 pub use layout::WORDS;
-pub use layout::span;
+pub use layout::tells_length;
 pub use refusals::Refusal;
 
 // W, the words that a store holds, or its refusal.
@@ -175,7 +175,7 @@ fn copy_words(bytes: &[u8], words: &mut [u16; WORDS], w: u16)
     requires { ⌜ (length (now bytes) ≤ 8192) × (w ≤ 253 * (length (now bytes) / 512)) ⌝ }
     ensures { λ _. ⌜ now (words .exit) ≡ tabulate w (word-at (now (bytes .entry))) ++ drop w (now (words .entry)) ⌝ }
 {
-    span(words);
+    tells_length(words);
     let mut at: usize = 2;
     let mut j: usize = 0;
     while j < w as usize {

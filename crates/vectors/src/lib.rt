@@ -26,7 +26,7 @@ pub struct VectorReader {
 }
 
 // Tells its caller how long the array is.
-fn span(bytes: &[u8]) {}
+fn tells_length(bytes: &[u8]) {}
 
 // How many bytes there are up to the first of this value, and with it.
 pub fn behind(text: &[u8], b: u8) -> usize
@@ -64,7 +64,7 @@ pub fn decode(digits: &[u8], bytes: &mut [u8; STORE]) -> usize
     requires { ⌜ length (now digits) ≤ 65536 ⌝ }
     ensures { λ n. ⌜ Decodes (now (digits .entry)) (now (bytes .exit)) n ⌝ }
 {
-    span(bytes);
+    tells_length(bytes);
     let mut n: usize = 0;
     while 2 * n + 1 < digits.len() {
         bytes[n] = byte(digits[2 * n], digits[2 * n + 1]);
@@ -101,7 +101,7 @@ pub fn ends(r: VectorReader, b: u8) -> bool
 pub fn keep(r: VectorReader, b: u8, text: &mut [u8; TEXT]) -> VectorReader
     ensures { λ n. ⌜ KeptSoFar r b (now (text .entry)) (now (text .exit)) n ⌝ }
 {
-    span(text);
+    tells_length(text);
     let tally = r.tally;
     let size = r.size;
     let fresh = b == b'\n';

@@ -7,8 +7,8 @@ use borrow.Author.Needs.{needs}
 use Rattle.accept.proofs.accept.Statement.{statement}
 use Rattle.accept.proofs.accept.Tie as tie
 
-span-requires : tie.Need-span-requires
-span-requires c κs = search needs
+tells-length-requires : tie.Need-tells-length-requires
+tells-length-requires c κs = search needs
 
 load-requires : tie.Need-load-requires
 load-requires c κs = search needs
@@ -42,7 +42,7 @@ refused-requires-2 c κs = search needs
 returns-2 : tie.Need-returns-2
 returns-2 c =
     let told = c .before .before .before .before in
-    let size = told .before .before .before .before .before .span-arg2 .given in
+    let size = told .before .before .before .before .before .tells-length-arg2 .given in
     let words = rw (told .enum-told .given .1) at (told .before .before .load .ensures) in
     let checked = c .before .before .read-and-checked .ensures in
     record-judged _ _ _ (omega arith) words _ (sym (ap answered (c .enum-told2 .given .1))) checked
@@ -50,7 +50,7 @@ returns-2 c =
 returns-3 : tie.Need-returns-3
 returns-3 c =
     let told = c .before .before .before .before .before .before in
-    let size = told .before .before .before .before .before .span-arg2 .given in
+    let size = told .before .before .before .before .before .tells-length-arg2 .given in
     let words = rw (told .enum-told .given .1) at (told .before .before .load .ensures) in
     let checked = c .before .before .before .before .read-and-checked .ensures in
     record-judged _ _ _ (omega arith) words _ (c .refused2 .ensures ∙ sym (ap answered (c .before .before .why .given .1))) checked
@@ -59,7 +59,7 @@ pub accept-spec : {M : Type 1} → statement M
 accept-spec =
     tie.close
     (tie.spec
-    span-requires
+    tells-length-requires
     load-requires
     enum-known-loaded
     refused-requires

@@ -38,14 +38,14 @@ use Rattle.cfg_claims.specs.Claims.{passes-waiting}
 use Rattle.cfg_claims.specs.Claims.{claims-bundle, scan-refused, SplitsOut, splits-out, Resolves, no-turn, nothing-claimed}
 use Rattle.cfg_claims.specs.Claims.{claim-refused}
 use Rattle.cfg_claims.specs.Claims.{select-refused, claims-and, ResolvesAll, resolves-all}
-use Rattle.state_words.specs.Rows.{attempts-at, kind-claimed, kind-in-progress, largest, level-at}
+use Rattle.state_words.specs.Rows.{attempts-at, kind-claimed, kind-in-progress, largest, level-at, kind-not-begun}
 
 -- ---- How many of the first n are 0.
 abbrev left-below : ℕ → List ℕ → ℕ
 left-below zero l = 0
-left-below (suc n) l = pick (eqb (getD l n 0) 0) 1 0 + left-below n l
+left-below (suc n) l = pick (eqb (getD l n 0) kind-not-begun) 1 0 + left-below n l
 
-module _ (l : List ℕ) (r x : ℕ) (not-zero : x ≡ 0 → ⊥) where
+module _ (l : List ℕ) (r x : ℕ) (not-zero : x ≡ kind-not-begun → ⊥) where
   beyond-same : (n : ℕ) → n ≤ r → left-below n (set l r x) ≡ left-below n l
   beyond-same zero h = refl
   beyond-same (suc n) h =
@@ -57,19 +57,19 @@ module _ (l : List ℕ) (r x : ℕ) (not-zero : x ≡ 0 → ⊥) where
     | yes e ↦ elim (decLt r (length l)) [
       | yes h ↦ (
           let z : getD (set l r x) n 0 ≡ x = ap (λ k. getD (set l r x) k 0) e ∙ getD-set-same l r x 0 h in
-          let y = set-more n in rw (z, ne-eqb x 0 not-zero) (omega arith))
+          let y = set-more n in rw (z, ne-eqb x kind-not-begun not-zero) (omega arith))
       | no h ↦ (let z = set-out l r x (omega arith) in rw z (omega arith))
     ]
     | no d ↦ (let z = getD-set-other l r n x 0 d in let y = set-more n in rw z (omega arith))
   ]
 
-  set-less : r < length l → getD l r 0 ≡ 0 → (n : ℕ) → r < n → suc (left-below n (set l r x)) ≤ left-below n l
+  set-less : r < length l → getD l r 0 ≡ kind-not-begun → (n : ℕ) → r < n → suc (left-below n (set l r x)) ≤ left-below n l
   set-less h o zero b = absurd (omega arith)
   set-less h o (suc n) b = elim (ℕ-discrete n r) [
     | yes e ↦ (
         let z : getD (set l r x) n 0 ≡ x = ap (λ k. getD (set l r x) k 0) e ∙ getD-set-same l r x 0 h in
-        let p : getD l n 0 ≡ 0 = ap (λ k. getD l k 0) e ∙ o in
-        let y = beyond-same n (omega arith) in rw (z, ne-eqb x 0 not-zero, p, y) (omega arith))
+        let p : getD l n 0 ≡ kind-not-begun = ap (λ k. getD l k 0) e ∙ o in
+        let y = beyond-same n (omega arith) in rw (z, ne-eqb x kind-not-begun not-zero, p, y) (omega arith))
     | no d ↦ (let z = getD-set-other l r n x 0 d in let y = set-less h o n (omega arith) in rw z (omega arith))
   ]
 
@@ -92,7 +92,7 @@ pub steady-of : {w w′ : List ℕ} → SameKinds w w′ → SteadyRecord w w′
 unfolding left
 steady-of s = record { front = s .front; fewer = rw (s .kinds-words) (omega arith) }
 
-pub steady-kind : (w : List ℕ) (r x : ℕ) → (x ≡ 0 → ⊥) → SteadyRecord w (stored w kinds r x)
+pub steady-kind : (w : List ℕ) (r x : ℕ) → (x ≡ kind-not-begun → ⊥) → SteadyRecord w (stored w kinds r x)
 unfolding left
 steady-kind w r x d =
     record {

@@ -4,8 +4,8 @@ use borrow.Author.Needs.{needs}
 use Rattle.cfg_incoming.proofs.add_one.Statement.{statement}
 use Rattle.cfg_incoming.proofs.add_one.Tie as tie
 
-span-requires : tie.Need-span-requires
-span-requires c κs = search needs
+tells-length-requires : tie.Need-tells-length-requires
+tells-length-requires c κs = search needs
 
 mul-t9 : tie.Need-mul-t9
 mul-t9 c = search needs
@@ -36,7 +36,7 @@ pub add-one-spec : {M : Type 1} → statement M
 add-one-spec =
     tie.close
     (tie.spec
-    span-requires
+    tells-length-requires
     mul-t9
     element-copy-out-t12
     plus-requires

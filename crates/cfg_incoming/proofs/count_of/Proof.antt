@@ -5,8 +5,8 @@ use borrow.Author.Needs.{needs}
 use Rattle.cfg_incoming.proofs.count_of.Statement.{statement}
 use Rattle.cfg_incoming.proofs.count_of.Tie as tie
 
-span-requires : tie.Need-span-requires
-span-requires c κs = search needs
+tells-length-requires : tie.Need-tells-length-requires
+tells-length-requires c κs = search needs
 
 mul-t8 : tie.Need-mul-t8
 mul-t8 c = search needs
@@ -23,4 +23,4 @@ returns-2 c =
     sym (List·getD-eq-default (start .args .counts .now) 0 {n = start .args .r} (omega arith))
 
 pub count-of-spec : {M : Type 1} → statement M
-count-of-spec = tie.close (tie.spec span-requires mul-t8 element-copy-out-t11 returns returns-2)
+count-of-spec = tie.close (tie.spec tells-length-requires mul-t8 element-copy-out-t11 returns returns-2)

@@ -20,8 +20,8 @@ Inv-loop w r todo₀ depth left₀ at₀ todo left at =
 abbrev μ-loop : tie.MeasureT-loop
 μ-loop w r todo₀ depth left₀ at₀ todo left at = left
 
-span-requires : tie.Need-span-requires Inv-loop μ-loop
-span-requires c κs = search needs
+tells-length-requires : tie.Need-tells-length-requires Inv-loop μ-loop
+tells-length-requires c κs = search needs
 
 few-targets-requires : tie.Need-few-targets-requires Inv-loop μ-loop
 few-targets-requires c κs = search needs
@@ -70,7 +70,7 @@ push-targets-spec =
     (tie.spec
     Inv-loop
     μ-loop
-    span-requires
+    tells-length-requires
     few-targets-requires
     loop-holds
     sub-left

@@ -15,7 +15,8 @@ use Rattle.cfg_regions.specs.declared.claim.Claim.{Claim}
 use Rattle.cfg_regions.specs.declared.claim.Claim.the-variants.{Claimed, Unclaimed, Refused}
 use Rattle.cfg_regions.specs.ByState.{claim-of, backedge-at, as-claimed, ClaimsBody, no-backedges, none-found, by-loop, ClaimsByState}
 use Rattle.cfg_regions.specs.ByState.{ready-claimed, ready-waits, busy-claimed, busy-waits, other-state, is-trivial, unclaimed-word}
-use Rattle.state_words.specs.Rows.{kind-claimed, kind-in-progress, kind-ready, largest, no-bundle-word, region-kind}
+use Rattle.state_words.specs.Rows.{kind-claimed, kind-in-progress, kind-ready, largest, no-bundle-word, region-kind, level-unreachable}
+use Rattle.state_words.specs.Rows.{level-deferred}
 use Rattle.store.specs.declared.refusals.Refusal.the-variants.{AlreadyClaimed}
 
 -- ---- The functions, path by path.
@@ -36,10 +37,10 @@ module _ (w : List ℕ) (t state : ℕ) (of-state : state ≡ region-kind w t) w
         rw (eq-eqb (region-kind w t) kind-ready (sym of-state ∙ ready), eq-eqb (word w set-lengths t) 0 (sym of-length ∙ z), e)
 
 module _ (w : List ℕ) (t : ℕ) (b : Bool) (test : b ≡ is-trivial w t) where
-  pub edge-nothing : b ≡ true → 0 ≡ unclaimed-word w t
+  pub edge-nothing : b ≡ true → level-unreachable ≡ unclaimed-word w t
   edge-nothing e = rw (← test, e)
 
-  pub edge-deferred : b ≡ false → 1 ≡ unclaimed-word w t
+  pub edge-deferred : b ≡ false → level-deferred ≡ unclaimed-word w t
   edge-deferred e = rw (← test, e)
 
 module _ (g : Graph) (w : List ℕ) {w₁ w₂ : List ℕ} (r : ℕ) (claims : w₁ ≡ stored w kinds r kind-claimed)

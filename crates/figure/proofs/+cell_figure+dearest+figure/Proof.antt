@@ -22,7 +22,7 @@ use Rattle.figure.proofs.+cell_figure+dearest+figure.Lts-figure as figu
 use Rattle.state_lists.proofs.list_before.Reads as list-before-reads
 use Rattle.fields.proofs.limit.Reads as limit-reads
 use Rattle.fields.proofs.test_cost.Reads as test-cost-reads
-use Rattle.figure.proofs.at_most.Reads as at-most-reads
+use Rattle.figure.proofs.held_at_limit.Reads as held-at-limit-reads
 use Rattle.figure.proofs.larger.Reads as larger-reads
 use Rattle.figure.proofs.blocks_figure.Reads as blocks-figure-reads
 use Rattle.state_nodes.proofs.cells.children_of_case.Reads as children-of-case-reads
@@ -73,8 +73,8 @@ cell-figure-called t = (
   blocks-region-reads.Learnt,
   blocks-figure-reads.Asked,
   blocks-figure-reads.Learnt,
-  at-most-reads.Asked,
-  at-most-reads.Learnt,
+  held-at-limit-reads.Asked,
+  held-at-limit-reads.Learnt,
   join-list-reads.Asked,
   join-list-reads.Learnt,
   figure-below t,
@@ -109,8 +109,8 @@ abbrev figure-called : ℕ → figure-lts.Claims
 figure-called t = (
   cell-figure-below t,
   cell-figure.Post,
-  at-most-reads.Asked,
-  at-most-reads.Learnt,
+  held-at-limit-reads.Asked,
+  held-at-limit-reads.Learnt,
   list-before-reads.Asked,
   list-before-reads.Learnt,
 )
@@ -126,12 +126,12 @@ cell-figure-blocks-figure-requires : (t : ℕ) → cell-figure-lts.Need-blocks-f
     cell-figure.Post
 cell-figure-blocks-figure-requires t c κs = search needs
 
-cell-figure-at-most-requires : (t : ℕ) → cell-figure-lts.Need-at-most-requires (cell-figure-called t) (cell-figure-at t) cell-figure.Post
-cell-figure-at-most-requires t c κs = search needs
+cell-figure-held-at-limit-requires : (t : ℕ) → cell-figure-lts.Need-held-at-limit-requires (cell-figure-called t) (cell-figure-at t) cell-figure.Post
+cell-figure-held-at-limit-requires t c κs = search needs
 
 cell-figure-returns : (t : ℕ) → cell-figure-lts.Need-returns (cell-figure-called t) (cell-figure-at t) cell-figure.Post
 cell-figure-returns t c = cell-blocks (c .before .before .before .before .cell-tag .ensures) (c .before .before .before .if1 .taken)
-    (c .before .before .blocks-region .ensures) (c .before .blocks-figure .ensures) (c .at-most .ensures)
+    (c .before .before .blocks-region .ensures) (c .before .blocks-figure .ensures) (c .held-at-limit .ensures)
 
 cell-figure-join-list-requires : (t : ℕ) → cell-figure-lts.Need-join-list-requires (cell-figure-called t) (cell-figure-at t)
     cell-figure.Post
@@ -173,12 +173,12 @@ cell-figure-dearest-requires t c κs =
       tt,
     )
 
-cell-figure-add-at-most : (t : ℕ) → cell-figure-lts.Need-add-at-most (cell-figure-called t) (cell-figure-at t) cell-figure.Post
-cell-figure-add-at-most t c = search needs
+cell-figure-add-held-at-limit : (t : ℕ) → cell-figure-lts.Need-add-held-at-limit (cell-figure-called t) (cell-figure-at t) cell-figure.Post
+cell-figure-add-held-at-limit t c = search needs
 
-cell-figure-at-most-requires-2 : (t : ℕ) → cell-figure-lts.Need-at-most-requires-2 (cell-figure-called t) (cell-figure-at t)
+cell-figure-held-at-limit-requires-2 : (t : ℕ) → cell-figure-lts.Need-held-at-limit-requires-2 (cell-figure-called t) (cell-figure-at t)
     cell-figure.Post
-cell-figure-at-most-requires-2 t c κs = search needs
+cell-figure-held-at-limit-requires-2 t c κs = search needs
 
 cell-figure-returns-3 : (t : ℕ) → cell-figure-lts.Need-returns-3 (cell-figure-called t) (cell-figure-at t) cell-figure.Post
 cell-figure-returns-3 t c =
@@ -188,7 +188,7 @@ cell-figure-returns-3 t c =
     let at-cell-tag = at-test-cost .before .before .before in
     cell-select (at-cell-tag .cell-tag .ensures)
     (at-test-cost .test-cost .ensures) (at-if .if3 .taken)
-    (at-select-cases .select-cases .ensures) (c .before .dearest .ensures) (c .at-most2 .ensures)
+    (at-select-cases .select-cases .ensures) (c .before .dearest .ensures) (c .held-at-limit2 .ensures)
 
 cell-figure-loop-header-requires : (t : ℕ)
     → cell-figure-lts.Need-loop-header-requires (cell-figure-called t) (cell-figure-at t) cell-figure.Post
@@ -215,11 +215,11 @@ cell-figure-figure-requires-2 t c κs =
       tt,
     )
 
-cell-figure-add-at-most-2 : (t : ℕ) → cell-figure-lts.Need-add-at-most-2 (cell-figure-called t) (cell-figure-at t) cell-figure.Post
-cell-figure-add-at-most-2 t c = search needs
+cell-figure-add-held-at-limit-2 : (t : ℕ) → cell-figure-lts.Need-add-held-at-limit-2 (cell-figure-called t) (cell-figure-at t) cell-figure.Post
+cell-figure-add-held-at-limit-2 t c = search needs
 
-cell-figure-mul-at-most : (t : ℕ) → cell-figure-lts.Need-mul-at-most (cell-figure-called t) (cell-figure-at t) cell-figure.Post
-cell-figure-mul-at-most t c =
+cell-figure-mul-held-at-limit : (t : ℕ) → cell-figure-lts.Need-mul-held-at-limit (cell-figure-called t) (cell-figure-at t) cell-figure.Post
+cell-figure-mul-held-at-limit t c =
     let at-limit = c .before .before in
     let at-test-cost = at-limit .before .before .before .before in
     omega (
@@ -228,9 +228,9 @@ cell-figure-mul-at-most t c =
           (at-test-cost .test-cost .ok),
     )
 
-cell-figure-at-most-requires-3 : (t : ℕ) → cell-figure-lts.Need-at-most-requires-3 (cell-figure-called t) (cell-figure-at t)
+cell-figure-held-at-limit-requires-3 : (t : ℕ) → cell-figure-lts.Need-held-at-limit-requires-3 (cell-figure-called t) (cell-figure-at t)
     cell-figure.Post
-cell-figure-at-most-requires-3 t c κs = search needs
+cell-figure-held-at-limit-requires-3 t c κs = search needs
 
 cell-figure-returns-4 : (t : ℕ) → cell-figure-lts.Need-returns-4 (cell-figure-called t) (cell-figure-at t) cell-figure.Post
 cell-figure-returns-4 t c =
@@ -245,7 +245,7 @@ cell-figure-returns-4 t c =
     (at-test-cost .test-cost .ensures)
     (at-if .if4 .taken) (at-loop-header .loop-header .ensures)
     (at-limit .limit .ensures) (at-loop-headerefore .loop-body .ensures) (c .before .figure2 .ensures)
-    (c .at-most3 .ensures)
+    (c .held-at-limit3 .ensures)
 
 cell-figure-returns-5 : (t : ℕ) → cell-figure-lts.Need-returns-5 (cell-figure-called t) (cell-figure-at t) cell-figure.Post
 cell-figure-returns-5 t c = cell-other (c .before .before .before .before .before .cell-tag .ensures)
@@ -316,12 +316,12 @@ figure-cell-figure-requires : (t : ℕ) → figure-lts.Need-cell-figure-requires
     figure-μ-loop
 figure-cell-figure-requires t c κs = (omega (arith, c .before .before .pre .0, c .before .loop .inv .below), c .loop-test .taken)
 
-figure-add-at-most : (t : ℕ) → figure-lts.Need-add-at-most (figure-called t) (figure-at t) figure.Post figure-Inv-loop figure-μ-loop
-figure-add-at-most t c = search needs
+figure-add-held-at-limit : (t : ℕ) → figure-lts.Need-add-held-at-limit (figure-called t) (figure-at t) figure.Post figure-Inv-loop figure-μ-loop
+figure-add-held-at-limit t c = search needs
 
-figure-at-most-requires : (t : ℕ) → figure-lts.Need-at-most-requires (figure-called t) (figure-at t) figure.Post figure-Inv-loop
+figure-held-at-limit-requires : (t : ℕ) → figure-lts.Need-held-at-limit-requires (figure-called t) (figure-at t) figure.Post figure-Inv-loop
     figure-μ-loop
-figure-at-most-requires t c κs = search needs
+figure-held-at-limit-requires t c κs = search needs
 
 figure-list-before-requires : (t : ℕ) → figure-lts.Need-list-before-requires (figure-called t) (figure-at t) figure.Post figure-Inv-loop
     figure-μ-loop
@@ -332,7 +332,7 @@ figure-loop-less t c = before-below _ (c .list-before .ensures) (c .before .befo
 
 figure-loop-again : (t : ℕ) → figure-lts.Need-loop-again (figure-called t) (figure-at t) figure.Post figure-Inv-loop figure-μ-loop
 figure-loop-again t c = passed-turn (c .before .before .before .before .loop .inv) (c .before .before .before .loop-test .taken)
-    (c .before .before .cell-figure .ensures) (c .before .at-most .ensures) (c .list-before .ensures)
+    (c .before .before .cell-figure .ensures) (c .before .held-at-limit .ensures) (c .list-before .ensures)
 
 figure-returns : (t : ℕ) → figure-lts.Need-returns (figure-called t) (figure-at t) figure.Post figure-Inv-loop figure-μ-loop
 figure-returns t c = passed-all (c .before .loop .inv) (c .loop-test .left)
@@ -344,7 +344,7 @@ pub +cell-figure+dearest+figure-spec : {M : Type 1} → statement M
     (cell-figure-cell-tag-requires t)
     (cell-figure-blocks-region-requires t)
     (cell-figure-blocks-figure-requires t)
-    (cell-figure-at-most-requires t)
+    (cell-figure-held-at-limit-requires t)
     (cell-figure-returns t)
     (cell-figure-join-list-requires t)
     (cell-figure-figure-requires t)
@@ -353,17 +353,17 @@ pub +cell-figure+dearest+figure-spec : {M : Type 1} → statement M
     (cell-figure-cast-test t)
     (cell-figure-select-cases-requires t)
     (cell-figure-dearest-requires t)
-    (cell-figure-add-at-most t)
-    (cell-figure-at-most-requires-2 t)
+    (cell-figure-add-held-at-limit t)
+    (cell-figure-held-at-limit-requires-2 t)
     (cell-figure-returns-3 t)
     (cell-figure-loop-header-requires t)
     (cell-figure-limit-requires t)
     (cell-figure-cast-limit t)
     (cell-figure-loop-body-requires t)
     (cell-figure-figure-requires-2 t)
-    (cell-figure-add-at-most-2 t)
-    (cell-figure-mul-at-most t)
-    (cell-figure-at-most-requires-3 t)
+    (cell-figure-add-held-at-limit-2 t)
+    (cell-figure-mul-held-at-limit t)
+    (cell-figure-held-at-limit-requires-3 t)
     (cell-figure-returns-4 t)
     (cell-figure-returns-5 t))
     (λ t. dearest-lts.spec (dearest-called t) (dearest-at t) dearest.Post dearest-Inv-loop dearest-μ-loop
@@ -378,8 +378,8 @@ pub +cell-figure+dearest+figure-spec : {M : Type 1} → statement M
     λ t. figure-lts.spec (figure-called t) (figure-at t) figure.Post figure-Inv-loop figure-μ-loop
     (figure-loop-holds t)
     (figure-cell-figure-requires t)
-    (figure-add-at-most t)
-    (figure-at-most-requires t)
+    (figure-add-held-at-limit t)
+    (figure-held-at-limit-requires t)
     (figure-list-before-requires t)
     (figure-loop-less t)
     (figure-loop-again t)

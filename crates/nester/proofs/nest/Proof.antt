@@ -4,8 +4,8 @@ use borrow.Author.Needs.{needs}
 use Rattle.nester.proofs.nest.Statement.{statement}
 use Rattle.nester.proofs.nest.Tie as tie
 
-span-requires : tie.Need-span-requires
-span-requires c κs = search needs
+tells-length-requires : tie.Need-tells-length-requires
+tells-length-requires c κs = search needs
 
 accept-requires : tie.Need-accept-requires
 accept-requires c κs = search needs
@@ -17,9 +17,9 @@ nest-record-requires : tie.Need-nest-record-requires
 nest-record-requires c κs =
     let at-enum-told = c .before .before in
     let at-accept = at-enum-told .before .before in
-    let at-span-arg = at-accept .before .before .before in
+    let at-tells-length-arg = at-accept .before .before .before in
     stood-loaded (at-accept .accept .ensures) (at-enum-told .enum-told .given .1)
-    (let size = at-span-arg .span-arg2 .given in omega arith)
+    (let size = at-tells-length-arg .tells-length-arg2 .given in omega arith)
 
 enum-known-number : tie.Need-enum-known-number
 enum-known-number c = search needs
@@ -42,7 +42,7 @@ pub nest-spec : {M : Type 1} → statement M
 nest-spec =
     tie.close
     (tie.spec
-    span-requires
+    tells-length-requires
     accept-requires
     enum-told
     nest-record-requires

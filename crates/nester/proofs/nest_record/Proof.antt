@@ -11,26 +11,26 @@ structurize-func-requires c κs = search needs
 enum-told : tie.Need-enum-told
 enum-told c = search needs
 
-written-requires : tie.Need-written-requires
-written-requires c κs = search needs
+write-or-refuse-requires : tie.Need-write-or-refuse-requires
+write-or-refuse-requires c κs = search needs
 
 enum-told-2 : tie.Need-enum-told-2
 enum-told-2 c = search needs
 
-formed-requires : tie.Need-formed-requires
-formed-requires c κs = search needs
+write-with-figure-requires : tie.Need-write-with-figure-requires
+write-with-figure-requires c κs = search needs
 
 enum-told-3 : tie.Need-enum-told-3
 enum-told-3 c = search needs
 
-formed-requires-2 : tie.Need-formed-requires-2
-formed-requires-2 c κs = search needs
+write-with-figure-requires-2 : tie.Need-write-with-figure-requires-2
+write-with-figure-requires-2 c κs = search needs
 
 enum-told-4 : tie.Need-enum-told-4
 enum-told-4 c = search needs
 
-written-requires-2 : tie.Need-written-requires-2
-written-requires-2 c κs = search needs
+write-or-refuse-requires-2 : tie.Need-write-or-refuse-requires-2
+write-or-refuse-requires-2 c κs = search needs
 
 enum-known-why : tie.Need-enum-known-why
 enum-known-why c = search needs
@@ -43,52 +43,52 @@ same-length c = search needs
 
 returns : tie.Need-returns
 returns c =
-    let at-written = c .before .before in
-    let at-enum-told = at-written .before .before .before in
+    let at-write-or-refuse = c .before .before in
+    let at-enum-told = at-write-or-refuse .before .before .before in
     let at-structurize-func = at-enum-told .before .before in
     λ g st valid.
     nested-unfigured valid (at-structurize-func .structurize-func .ensures g st valid)
     (ap number-of (at-enum-told .enum-told .given .1)) (omega arith) (λ a b. omega arith)
-    (at-written .written .ensures)
+    (at-write-or-refuse .write-or-refuse .ensures)
 
 same-length-2 : tie.Need-same-length-2
 same-length-2 c = search needs
 
 returns-2 : tie.Need-returns-2
 returns-2 c =
-    let at-formed = c .before .before in
-    let at-enum-told = at-formed .before .before .before in
+    let at-write-with-figure = c .before .before in
+    let at-enum-told = at-write-with-figure .before .before .before in
     let at-structurize-func = at-enum-told .before .before in
     λ g st valid.
     nested-formed valid (at-structurize-func .structurize-func .ensures g st valid)
     (ap number-of (at-enum-told .enum-told2 .given .1)) (omega arith) (omega arith)
-    (at-formed .formed .ensures)
+    (at-write-with-figure .write-with-figure .ensures)
 
 same-length-3 : tie.Need-same-length-3
 same-length-3 c = search needs
 
 returns-3 : tie.Need-returns-3
 returns-3 c =
-    let at-formed = c .before .before in
-    let at-enum-told = at-formed .before .before .before in
+    let at-write-with-figure = c .before .before in
+    let at-enum-told = at-write-with-figure .before .before .before in
     let at-structurize-func = at-enum-told .before .before in
     λ g st valid.
     nested-formed valid (at-structurize-func .structurize-func .ensures g st valid)
     (ap number-of (at-enum-told .enum-told3 .given .1)) (omega arith) (omega arith)
-    (at-formed .formed2 .ensures)
+    (at-write-with-figure .write-with-figure2 .ensures)
 
 same-length-4 : tie.Need-same-length-4
 same-length-4 c = search needs
 
 returns-4 : tie.Need-returns-4
 returns-4 c =
-    let at-written = c .before .before in
-    let at-enum-told = at-written .before .before .before in
+    let at-write-or-refuse = c .before .before in
+    let at-enum-told = at-write-or-refuse .before .before .before in
     let at-structurize-func = at-enum-told .before .before in
     λ g st valid.
     nested-unfigured valid (at-structurize-func .structurize-func .ensures g st valid)
     (ap number-of (at-enum-told .enum-told4 .given .1)) (omega arith) (λ a b. omega arith)
-    (at-written .written2 .ensures)
+    (at-write-or-refuse .write-or-refuse2 .ensures)
 
 returns-5 : tie.Need-returns-5
 returns-5 c = λ g st valid. nested-refused valid (c .before .before .before .before .structurize-func .ensures g st valid)
@@ -100,13 +100,13 @@ nest-record-spec =
     (tie.spec
     structurize-func-requires
     enum-told
-    written-requires
+    write-or-refuse-requires
     enum-told-2
-    formed-requires
+    write-with-figure-requires
     enum-told-3
-    formed-requires-2
+    write-with-figure-requires-2
     enum-told-4
-    written-requires-2
+    write-or-refuse-requires-2
     enum-known-why
     refused-requires
     same-length

@@ -29,7 +29,7 @@ use Rattle.nesting.specs.named.NamedSteps.{KeepsNamed, then-keeps, next-
 use Rattle.nesting.specs.named.NamedSteps.{define-node-named}
 use Rattle.nesting.specs.named.NamedSteps.{insert-rewrites-named, materialize-named}
 use Rattle.nesting.specs.named.NamedSelects.{BundleMaybe, bundle-named, condition-named, BodyNamed, append-named, select-into-named}
-use Rattle.format.specs.Refusals.{already-claimed}
+use Rattle.format.specs.Refusals.{already-claimed, never}
 
 module _ (M : ℕ) where
   abbrev pub ClaimMaybe : Option ClaimedRegion → Type 0
@@ -171,14 +171,14 @@ module _ (M : ℕ) where
 
     claim-by-state-named : (r n : ℕ) (ins : List Value) (inc : ℕ) (x : StructurizeRegionState)
         → KeepsNamed M (AllNamed M ins × StateNamed M x) ClaimMaybe (claim-by-state g r n ins inc x)
-    claim-by-state-named r n ins inc not-begun = refusal-named 0 r
-    claim-by-state-named r n ins inc claimed = refusal-named 12 r
+    claim-by-state-named r n ins inc not-begun = refusal-named never r
+    claim-by-state-named r n ins inc claimed = refusal-named already-claimed r
     claim-by-state-named r n ins inc in-progress = go (eqb inc n)
       where
         go : (b : Bool) → KeepsNamed M (AllNamed M ins × Unit) ClaimMaybe
             (elim b as (λ b. Step (Option ClaimedRegion)) [ false ↦ give none | true ↦ turn-away already-claimed r ])
         go false = give-keeps M none (λ h. tt)
-        go true = refusal-named 12 r
+        go true = refusal-named already-claimed r
     claim-by-state-named r n ins inc (ready b ks d) = go (eqb inc (n + b))
       where
         go : (c : Bool) → KeepsNamed M (AllNamed M ins × (NodesNamed M ks × SetNamed M d)) ClaimMaybe
@@ -334,7 +334,7 @@ module _ (M : ℕ) where
 
     pub try-claim-named : (counts : List IncomingEdgeCount) (fuel : ℕ) → ClaimsNamed (try-claim-edge-bundle g counts fuel)
     unfolding try-claim-edge-bundle
-    try-claim-named counts zero r n ins = refusal-named 0 r
+    try-claim-named counts zero r n ins = refusal-named never r
     try-claim-named counts (suc fuel) r n ins =
         then-keeps M (count-attempt >> get-state r >>= λ x. begin x
         (structurize-region g (λ r′ n′ ins′. try-claim-edge-bundle g counts fuel r′ n′ ins′) r) >> get-state r) _

@@ -17,47 +17,47 @@ Inv-loop w₀ n r₀ c₀ w r c = RegionsGoing n (c₀ .end) (c₀ .at) w₀ r (
 abbrev μ-loop : tie.MeasureT-loop
 μ-loop w₀ n r₀ c₀ w r c = n - r
 
-span-requires : tie.Need-span-requires Inv-loop μ-loop
-span-requires c κs = search needs
+tells-length-requires : tie.Need-tells-length-requires Inv-loop μ-loop
+tells-length-requires c κs = search needs
 
 loop-holds : tie.Need-loop-holds Inv-loop μ-loop
 loop-holds c = (regions-start _ _ _ _, refl)
 
-region-requires : tie.Need-region-requires Inv-loop μ-loop
-region-requires c κs = search needs
+read-region-requires : tie.Need-read-region-requires Inv-loop μ-loop
+read-region-requires c κs = search needs
 
 enum-known-step : tie.Need-enum-known-step Inv-loop μ-loop
 enum-known-step c = search needs
 
 refusal-requires : tie.Need-refusal-requires Inv-loop μ-loop
 refusal-requires c κs =
-    let at-region = c .before .before .before in
-    let turn = at-region .before .before in
+    let at-read-region = c .before .before .before in
+    let turn = at-read-region .before .before in
     let at-loop = turn .before in
     let start = at-loop .before .before .before .before in
-    number-of-region _ _ _ _ _ (at-region .region .result) (at-loop .loop .inv .0) (at-loop .loop .inv .1) (turn .loop-test .taken)
-    (start .pre .0) (at-region .region .ensures) (c .before .step .given .1)
+    number-of-region _ _ _ _ _ (at-read-region .read-region .result) (at-loop .loop .inv .0) (at-loop .loop .inv .1) (turn .loop-test .taken)
+    (start .pre .0) (at-read-region .read-region .ensures) (c .before .step .given .1)
 
 returns : tie.Need-returns Inv-loop μ-loop
 returns c =
-    let at-region = c .before .before .before .before in
-    let turn = at-region .before .before in
+    let at-read-region = c .before .before .before .before in
+    let turn = at-read-region .before .before in
     let at-loop = turn .before in
     let start = at-loop .before .before .before .before in
-    regions-refused _ _ _ _ _ (at-region .region .result) (at-loop .loop .inv .0) (at-loop .loop .inv .1) (turn .loop-test .taken)
-    (start .pre .0) (at-region .region .ensures) _ (c .before .before .step .given .1) (c .refusal .ensures)
+    regions-refused _ _ _ _ _ (at-read-region .read-region .result) (at-loop .loop .inv .0) (at-loop .loop .inv .1) (turn .loop-test .taken)
+    (start .pre .0) (at-read-region .read-region .ensures) _ (c .before .before .step .given .1) (c .refusal .ensures)
 
 enum-known-step-2 : tie.Need-enum-known-step-2 Inv-loop μ-loop
 enum-known-step-2 c = search needs
 
-cast-store : tie.Need-cast-store Inv-loop μ-loop
-cast-store c =
+cast-put-places : tie.Need-cast-put-places Inv-loop μ-loop
+cast-put-places c =
     let at-step = c .before .before .before in
-    let at-region = at-step .before .before in
-    let at-loop = at-region .before .before .before in
+    let at-read-region = at-step .before .before in
+    let at-loop = at-read-region .before .before .before in
     let at-args = at-loop .before .before .before .before in
     let a = step-read _ _ _ (at-loop .loop .inv .1)
-    (at-region .region .ensures .step) (at-step .step2 .given .1) in
+    (at-read-region .read-region .ensures .step) (at-step .step2 .given .1) in
     omega (
       arith,
       taken-inside (at-loop .loop .w)
@@ -65,8 +65,8 @@ cast-store c =
           (region-inside _ _ (a .is)) .0,
     )
 
-store-requires : tie.Need-store-requires Inv-loop μ-loop
-store-requires c κs = omega arith
+put-places-requires : tie.Need-put-places-requires Inv-loop μ-loop
+put-places-requires c κs = omega arith
 
 add-r : tie.Need-add-r Inv-loop μ-loop
 add-r c = omega arith
@@ -77,25 +77,25 @@ loop-less c = omega arith
 loop-again : tie.Need-loop-again Inv-loop μ-loop
 loop-again c =
     let at-step2 = c .before .before .before .before in
-    let at-region = at-step2 .before .before in
-    let turn = at-region .before .before in
+    let at-read-region = at-step2 .before .before in
+    let turn = at-read-region .before .before in
     let at-loop = turn .before in
     let start = at-loop .before .before .before .before in
-    let a = step-read _ _ _ (at-loop .loop .inv .1) (at-region .region .ensures .step) (at-step2 .step2 .given .1) in (
-      regions-next _ _ _ _ _ (at-region .region .result) (at-loop .loop .inv .0) (at-loop .loop .inv .1) (turn .loop-test .taken)
-          (start .pre .0) (at-region .region .ensures) _ (start .pre .1) (at-step2 .step2 .given .1) (c .store .ensures),
+    let a = step-read _ _ _ (at-loop .loop .inv .1) (at-read-region .read-region .ensures .step) (at-step2 .step2 .given .1) in (
+      regions-next _ _ _ _ _ (at-read-region .read-region .result) (at-loop .loop .inv .0) (at-loop .loop .inv .1) (turn .loop-test .taken)
+          (start .pre .0) (at-read-region .read-region .ensures) _ (start .pre .1) (at-step2 .step2 .given .1) (c .put-places .ensures),
       a .same,
     )
 
 returns-2 : tie.Need-returns-2 Inv-loop μ-loop
 returns-2 c =
     regions-read _ _ _ _ (c .before .before .before .loop .inv .0) (c .before .before .loop-test .left)
-    (omega (arith, c .before .before .before .before .before .span-arg2 .given)) (c .if1 .taken ∙ c .before .before .before .loop .inv .1)
+    (omega (arith, c .before .before .before .before .before .tells-length-arg2 .given)) (c .if1 .taken ∙ c .before .before .before .loop .inv .1)
 
 returns-3 : tie.Need-returns-3 Inv-loop μ-loop
 returns-3 c =
     regions-left _ _ _ _ (c .before .before .before .loop .inv .0) (c .before .before .loop-test .left)
-    (omega (arith, c .before .before .before .before .before .span-arg2 .given))
+    (omega (arith, c .before .before .before .before .before .tells-length-arg2 .given))
     (λ q. c .if1 .left (q ∙ sym (c .before .before .before .loop .inv .1)))
 
 pub read-regions-spec : {M : Type 1} → statement M
@@ -104,15 +104,15 @@ read-regions-spec =
     (tie.spec
     Inv-loop
     μ-loop
-    span-requires
+    tells-length-requires
     loop-holds
-    region-requires
+    read-region-requires
     enum-known-step
     refusal-requires
     returns
     enum-known-step-2
-    cast-store
-    store-requires
+    cast-put-places
+    put-places-requires
     add-r
     loop-less
     loop-again

@@ -31,7 +31,7 @@ use Rattle.sheet_nodes.specs.Pieces.{region-lines, set-part}
 use Rattle.sheet_nodes.specs.laws.Leftovers.{ready-lines, ready-set, given-set, unclaimed-lines, ascending-sets}
 use Rattle.sheet_nodes.specs.Regions.{PutsPiece, PutsWhole, PutsWholeOutputs, state-at, PutsReady, PutsUnclaimed, PutsGivenSet}
 use Rattle.sheet_nodes.specs.Regions.{PutsSets, PutsNodes, PutsSet, LinesFrom, SetsFrom}
-use Rattle.state_words.specs.Rows.{kind-claimed, most-bundles, region-kind}
+use Rattle.state_words.specs.Rows.{kind-claimed, most-bundles, region-kind, kind-ready}
 
 -- ---- Paths of put_piece, put_whole_outputs and put_whole.
 first-bundle : (start : ℕ) → start < most-bundles → bundle-at start 0 ≡ start + 0
@@ -75,7 +75,7 @@ module _ (w : List ℕ) (r : ℕ) {list : ℕ} (handle : list ≡ word w childre
 
 -- ---- By a region's state.
 module _ (g : Graph) (w : List ℕ) (s : NestState) (r : ℕ) {k : ℕ} (kind : k ≡ region-kind w r) where
-  is-put : (x : StructurizeRegionState) → ShowsRegion g w r x → k ≡ 2 → {out out′ : List ℕ} {at at′ : Place}
+  is-put : (x : StructurizeRegionState) → ShowsRegion g w r x → k ≡ kind-ready → {out out′ : List ℕ} {at at′ : Place}
       → ((ks : Nodes) → ShowsChildren g w (word w children r) ks → Puts out at (region-lines g s r ks []) out′ at′)
       → Puts out at (ready-lines g s r x) out′ at′
   is-put not-begun (is-not-begun a) e p = absurd (omega arith)
@@ -83,14 +83,14 @@ module _ (g : Graph) (w : List ℕ) (s : NestState) (r : ℕ) {k : ℕ} (kind : 
   is-put claimed (is-claimed a) e p = absurd (omega arith)
   is-put (ready b ks d) (is-ready a _ n t) e p = p ks n
 
-  not-put : (x : StructurizeRegionState) → ShowsRegion g w r x → (k ≡ 2 → ⊥) → (out : List ℕ) (at : Place)
+  not-put : (x : StructurizeRegionState) → ShowsRegion g w r x → (k ≡ kind-ready → ⊥) → (out : List ℕ) (at : Place)
       → Puts out at (ready-lines g s r x) out at
   not-put not-begun (is-not-begun a) e out at = puts-none out at
   not-put in-progress (is-in-progress a) e out at = puts-none out at
   not-put claimed (is-claimed a) e out at = puts-none out at
   not-put (ready b ks d) (is-ready a _ n t) e out at = absurd (e (kind ∙ a))
 
-  set-put : (x : StructurizeRegionState) → ShowsRegion g w r x → k ≡ 2 → {out out′ : List ℕ} {at at′ : Place}
+  set-put : (x : StructurizeRegionState) → ShowsRegion g w r x → k ≡ kind-ready → {out out′ : List ℕ} {at at′ : Place}
       → ((d : DeferredEdgeBundleSet) → ShowsOwnSet g w r d → Puts out at (set-part g s r d) out′ at′)
       → Puts out at (ready-set g s r x) out′ at′
   set-put not-begun (is-not-begun a) e p = absurd (omega arith)
@@ -98,7 +98,7 @@ module _ (g : Graph) (w : List ℕ) (s : NestState) (r : ℕ) {k : ℕ} (kind : 
   set-put claimed (is-claimed a) e p = absurd (omega arith)
   set-put (ready b ks d) (is-ready a _ n t) e p = p d t
 
-  no-set-put : (x : StructurizeRegionState) → ShowsRegion g w r x → (k ≡ 2 → ⊥) → (out : List ℕ) (at : Place)
+  no-set-put : (x : StructurizeRegionState) → ShowsRegion g w r x → (k ≡ kind-ready → ⊥) → (out : List ℕ) (at : Place)
       → Puts out at (ready-set g s r x) out at
   no-set-put not-begun (is-not-begun a) e out at = puts-none out at
   no-set-put in-progress (is-in-progress a) e out at = puts-none out at
@@ -106,10 +106,10 @@ module _ (g : Graph) (w : List ℕ) (s : NestState) (r : ℕ) {k : ℕ} (kind : 
   no-set-put (ready b ks d) (is-ready a _ n t) e out at = absurd (e (kind ∙ a))
 
 module _ (w : List ℕ) (r : ℕ) {k : ℕ} (kind : k ≡ region-kind w r) where
-  pub ready-put : {out out′ : List ℕ} {at at′ : Place} → k ≡ 2 → PutsPiece w r out at out′ at′ → PutsReady w r out at out′ at′
+  pub ready-put : {out out′ : List ℕ} {at at′ : Place} → k ≡ kind-ready → PutsPiece w r out at out′ at′ → PutsReady w r out at out′ at′
   ready-put e p g s c l = is-put g w s r kind (state-at s r) (c .state .regions r l) e (p g s c)
 
-  pub ready-not-put : (out : List ℕ) (at : Place) → (k ≡ 2 → ⊥) → PutsReady w r out at out at
+  pub ready-not-put : (out : List ℕ) (at : Place) → (k ≡ kind-ready → ⊥) → PutsReady w r out at out at
   ready-not-put out at e g s c l = not-put g w s r kind (state-at s r) (c .state .regions r l) e out at
 
 module _ (w : List ℕ) (r : ℕ) {entry : ℕ} (is-entry : OfRecord w (λ g. entry ≡ g .entry)) where
@@ -122,11 +122,11 @@ module _ (w : List ℕ) (r : ℕ) {entry : ℕ} (is-entry : OfRecord w (λ g. en
     not-entry : (g : Graph) (s : NestState) → Concluded g w s → eqb r (g .entry) ≡ false
     not-entry g s c = ne-eqb r (g .entry) (λ e. other (e ∙ sym (is-entry g (c .state .stands))))
 
-    pub ready-set-put : {out out′ : List ℕ} {at at′ : Place} → k ≡ 2 → PutsSet w r out at out′ at′ → PutsGivenSet w r out at out′ at′
+    pub ready-set-put : {out out′ : List ℕ} {at at′ : Place} → k ≡ kind-ready → PutsSet w r out at out′ at′ → PutsGivenSet w r out at out′ at′
     ready-set-put e p g s c d x l =
         rw (not-entry g s c) (set-put g w s r kind (state-at s r) (c .state .regions r l) e (p g s c))
 
-    pub no-given-set : (out : List ℕ) (at : Place) → (k ≡ 2 → ⊥) → PutsGivenSet w r out at out at
+    pub no-given-set : (out : List ℕ) (at : Place) → (k ≡ kind-ready → ⊥) → PutsGivenSet w r out at out at
     no-given-set out at e g s c d x l = rw (not-entry g s c) (no-set-put g w s r kind (state-at s r) (c .state .regions r l) e out at)
 
 module _ (w : List ℕ) {n : ℕ} (count : OfRecord w (λ g. n ≡ length (g .regions))) where

@@ -23,7 +23,7 @@ use Rattle.cfg_bundles.specs.EdgesAndCases.{condition-in}
 use Rattle.sheet_words.specs.PutInFront.{Part}
 use Rattle.sheet_words.specs.laws.PutInFrontLaws.{_⊕_}
 use Rattle.sheet_words.specs.Parts.{look-up-at-end, values-part, defer-part}
-use Rattle.state_words.specs.Rows.{bundle-condition, bundle-count, bundle-target, most-bundles, return-word}
+use Rattle.state_words.specs.Rows.{bundle-condition, bundle-count, bundle-target, most-bundles, return-word, slot-size}
 
 -- ---- The line.
 target-words : {g : Graph} {t : ℕ} {x : DeferredTarget} → ShowsTarget g t x → sheet.target x .words ≡ t ∷ []
@@ -71,5 +71,5 @@ module _ {g : Graph} {w : List ℕ} (r : ℕ) {d : DeferredEdgeBundleSet} (set :
   bundle-shown {start} {i} {p} of-start below is =
       let few = set .few in
       let room = set .room in
-      let there : p ≡ word w set-starts r + i = is ∙ rw (lt-ltb start most-bundles (omega arith), lt-ltb i 33 (omega arith), of-start) in
+      let there : p ≡ word w set-starts r + i = is ∙ rw (lt-ltb start most-bundles (omega arith), lt-ltb i slot-size (omega arith), of-start) in
       rw there (set .each i (omega arith))

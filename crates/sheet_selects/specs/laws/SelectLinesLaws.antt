@@ -8,7 +8,7 @@ use Rattle.meaning.specs.Graph.{SelectionKind}
 use Rattle.nesting.specs.Nesting.{plain, case-outputs}
 use Rattle.nesting.specs.Sheet as sheet
 use Rattle.nesting.specs.SheetNumbers.{lead-select}
-use Rattle.state_words.specs.Rows.{select-node, select-shape, select-scrutinee, select-cases, case-region, children-of-case}
+use Rattle.state_words.specs.Rows.{select-node, select-shape, select-scrutinee, select-cases, case-region, children-of-case, bool-shape}
 use Rattle.state_shown.specs.Values.{value}
 use Rattle.state_shown.specs.Tables.{ShowsShape, shape-bool, shape-number}
 use Rattle.sheet_words.specs.declared.place.Place.{Place}
@@ -25,8 +25,8 @@ use Rattle.sheet_selects.specs.SelectLines.{kind-word, PutsCaseLine, Put
 
 kind-shown : {shape n : ℕ} {kind : SelectionKind} → ShowsShape shape n kind → sheet.kind kind .words ≡ kind-word shape ∷ []
 unfolding kind-word
-kind-shown {shape} (shape-bool e _) = rw (eq-eqb shape 0 e)
-kind-shown {shape} (shape-number some _ _) = rw (ne-eqb shape 0 (λ z. omega arith))
+kind-shown {shape} (shape-bool e _) = rw (eq-eqb shape bool-shape e)
+kind-shown {shape} (shape-number some _ _) = rw (ne-eqb shape bool-shape (λ z. omega arith))
 
 pub case-line-put : (w : List ℕ) (h node j : ℕ) {list r : ℕ} {out₀ out₁ out₂ : List ℕ} {at₀ at₁ at₂ : Place}
     → PutsCaseOutputs w node j out₀ at₀ out₁ at₁ → r ≡ case-region w h → list ≡ children-of-case w h

@@ -15,7 +15,7 @@ use Rattle.meaning.specs.facts.Tests.{eqb-sym}
 use Rattle.nesting.specs.Nesting.{NestState, NodeOutput, unmarked, look-up}
 use Rattle.nesting.specs.Sheet as sheet
 use Rattle.state_words.specs.Sections.{word, head}
-use Rattle.state_words.specs.Values.{parts-of}
+use Rattle.state_words.specs.Values.{parts-of, bool-from}
 use Rattle.state_shown.specs.Values.{value}
 use Rattle.state_shown.specs.laws.ValueWords.{Ranged, in-const, in-false, in-true, in-undef, in-output, in-input, in-held, in-instr}
 use Rattle.state_shown.specs.laws.ValueWords.{in-none}
@@ -69,15 +69,15 @@ module _ {w : List ℕ} {s : NestState} (t : ShowsTables w s) where
   -- ---- By the range of the word.
   words-shown : (x : ℕ) {v : Value} → Ranged x v → value-words w x ≡ sheet.value (output-nodes s) (unmarked v) .words
   unfolding value-words parts-of
-  words-shown x (in-const a e) = rw (e, lt-ltb x 64 a)
+  words-shown x (in-const a e) = rw (e, lt-ltb x bool-from a)
   words-shown x (in-false a e) = rw (e, a)
   words-shown x (in-true a e) = rw (e, a)
   words-shown x (in-undef a b e) =
-      rw (e, le-ltb x 64 (omega arith), le-ltb x undef-from a, lt-ltb x output-from b)
+      rw (e, le-ltb x bool-from (omega arith), le-ltb x undef-from a, lt-ltb x output-from b)
   words-shown x (in-output a b e) =
       rw (
         e,
-        le-ltb x 64 (omega arith),
+        le-ltb x bool-from (omega arith),
         le-ltb x undef-from (omega arith),
         le-ltb x output-from a,
         lt-ltb x input-from b,
@@ -87,7 +87,7 @@ module _ {w : List ℕ} {s : NestState} (t : ShowsTables w s) where
   words-shown x (in-input a b e) =
       rw (
         e,
-        le-ltb x 64 (omega arith),
+        le-ltb x bool-from (omega arith),
         le-ltb x undef-from (omega arith),
         le-ltb x output-from (omega arith),
         le-ltb x input-from a,
@@ -96,7 +96,7 @@ module _ {w : List ℕ} {s : NestState} (t : ShowsTables w s) where
   words-shown x (in-held a b e) =
       rw (
         e,
-        le-ltb x 64 (omega arith),
+        le-ltb x bool-from (omega arith),
         le-ltb x undef-from (omega arith),
         le-ltb x output-from (omega arith),
         le-ltb x input-from
@@ -106,7 +106,7 @@ module _ {w : List ℕ} {s : NestState} (t : ShowsTables w s) where
   words-shown x (in-instr a b e) =
       rw (
         e,
-        le-ltb x 64 (omega arith),
+        le-ltb x bool-from (omega arith),
         le-ltb x undef-from (omega arith),
         le-ltb x output-from (omega arith),
         le-ltb x input-from (omega arith),
@@ -116,7 +116,7 @@ module _ {w : List ℕ} {s : NestState} (t : ShowsTables w s) where
   words-shown x (in-none a e) =
       rw (
         e,
-        le-ltb x 64 (omega arith),
+        le-ltb x bool-from (omega arith),
         le-ltb x undef-from (omega arith),
         le-ltb x output-from (omega arith),
         le-ltb x input-from (omega arith),

@@ -6,7 +6,7 @@ use native.Mathlib.Omega.{arith}
 use native.Mathlib.Numerals.{add-one}
 use borrow.Author.Tests.{eq-eqb, ne-eqb}
 use Rattle.state_sets.specs.SetTables.{bundle-at, find-by, shifted, bundle-copied}
-use Rattle.state_words.specs.Rows.{bundle-target}
+use Rattle.state_words.specs.Rows.{bundle-target, no-bundle-word}
 
 pub find-start : (l : List ℕ) (start t n : ℕ) → find-by l start t (n - 0) 0 ≡ find-by l start t n 0
 find-start l start t n = let e : n - 0 ≡ n = omega arith in rw e
@@ -23,7 +23,7 @@ module _ (l : List ℕ) (start t n i : ℕ) {whole : ℕ} where
       let s : n - i ≡ suc (n - (i + 1)) = omega arith in
       rw (add-one i) (rw (add-one i) at (rw (ne-eqb _ _ e) at (rw s at q)))
 
-  pub find-stop : n ≤ i → find-by l start t (n - i) i ≡ whole → 65535 ≡ whole
+  pub find-stop : n ≤ i → find-by l start t (n - i) i ≡ whole → no-bundle-word ≡ whole
   unfolding find-by
   find-stop h q = let s : n - i ≡ 0 = omega arith in rw s at q
 

@@ -63,7 +63,7 @@ module _ (g : Graph) (l : List ℕ) (i : ℕ) (xs : List ℕ) where
         case-and (cell-before x n) p q (nodes-before ns (omega arith)) (cases-before cs (omega arith)) e
 
 -- ---- A cell more, where there is room.
-six-words : (x : Cell) → length (cell-words x) ≡ 6
+six-words : (x : Cell) → length (cell-words x) ≡ cell-row-size
 six-words (Blocks r) = refl
 six-words (Join p q) = refl
 six-words (Exit p n r) = refl

@@ -25,7 +25,7 @@ use Rattle.state_shown.specs.Tables.{shows-merge, ShowsConds, no-parts, 
 use Rattle.state_shown.specs.Tables.{ShowsTables, ShowsDefined, shows-done, shows-full}
 use Rattle.state_words.specs.Rows.{attempts-at, cell-row-at, cell-word, cell-word-at, cells-at, merge-part-at, merge-row-at, merge-select}
 use Rattle.state_words.specs.Rows.{merge-select-at, merge-word-at, merges-at, merges-from, nodes-at, outputs-at, regions-at, select-node}
-use Rattle.state_words.specs.Rows.{select-scrutinee, select-shape, twice-at}
+use Rattle.state_words.specs.Rows.{select-scrutinee, select-shape, twice-at, bool-shape}
 
 -- How many cases the shape of a record says it has.
 pub shape-cases : {shape n : ℕ} {kind : SelectionKind} → ShowsShape shape n kind → shape-size shape ≡ n
@@ -33,8 +33,8 @@ unfolding shape-size
 shape-cases (shape-bool e f) = rw (e, f)
 shape-cases {shape} (shape-number a b e) =
     elim (decLt shape 8) [
-      | yes h ↦ rw (ne-eqb shape 0 (omega arith), lt-ltb shape 8 h) (sym e)
-      | no h ↦ rw (ne-eqb shape 0 (omega arith), le-ltb shape 8 (omega arith)) (omega arith)
+      | yes h ↦ rw (ne-eqb shape bool-shape (omega arith), lt-ltb shape 8 h) (sym e)
+      | no h ↦ rw (ne-eqb shape bool-shape (omega arith), le-ltb shape 8 (omega arith)) (omega arith)
     ]
 
 pub few-cases : {shape n : ℕ} {kind : SelectionKind} → ShowsShape shape n kind → n ≤ 8

@@ -9,14 +9,14 @@ use Rattle.state_words.specs.Sections as sections
 use Rattle.state_words.specs.Sections.{Section, number, start, size, section, word, stored, head, rewrites, outputs}
 use Rattle.state_words.specs.laws.Apart.{stored-length, section-other}
 use Rattle.state_shown.specs.Tables.{ShowsTables}
-use Rattle.state_words.specs.Rows.{attempts-at, merges-at, nodes-at, outputs-at, regions-at, twice-at}
+use Rattle.state_words.specs.Rows.{attempts-at, merges-at, nodes-at, outputs-at, regions-at, twice-at, cells-at, cases-at}
 
 -- The tables have the same words. Of the head they have the first seven, but for the total of cells.
 pub record SameTables (w w′ : List ℕ) : Type 0 where
   pub words : length w′ ≡ length w
   pub same-rewrites : section w′ rewrites ≡ section w rewrites
   pub same-outputs : section w′ outputs ≡ section w outputs
-  pub totals : (q : ℕ) → q < 7 → (q ≡ 4 → ⊥) → word w′ head q ≡ word w head q
+  pub totals : (q : ℕ) → q < cases-at → (q ≡ cells-at → ⊥) → word w′ head q ≡ word w head q
 
 pub tables-stay : {w w′ : List ℕ} {s : NestState} → SameTables w w′ → ShowsTables w s → ShowsTables w′ s
 tables-stay g t =

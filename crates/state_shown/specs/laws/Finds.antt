@@ -15,15 +15,15 @@ use Rattle.meaning.specs.facts.Tests.{eqb-sym}
 use Rattle.nesting.specs.Nesting.{DeferredTarget, DeferredEdgeBundleSet, same-target, get-edge-bundle-by-target}
 use Rattle.state_sets.specs.SetTables.{bundle-at, find-by, slot}
 use Rattle.state_shown.specs.Sets.{ShowsTarget, shows-region, shows-return, ShowsSet, no-bundle}
-use Rattle.state_words.specs.Rows.{bundle-target, most-bundles, no-bundle-word, return-word, slot-size}
+use Rattle.state_words.specs.Rows.{bundle-target, most-bundles, no-bundle-word, return-word, slot-size, slot-count}
 
 pub bundle-in : (start i : ℕ) → start < most-bundles → i < slot-size → bundle-at start i ≡ start + i
 unfolding bundle-at
-bundle-in start i a b = rw (lt-ltb start most-bundles a, lt-ltb i 33 b)
+bundle-in start i a b = rw (lt-ltb start most-bundles a, lt-ltb i slot-size b)
 
-pub slot-in : (a : ℕ) → a < 33 → slot a ≡ 33 * a
+pub slot-in : (a : ℕ) → a < slot-count → slot a ≡ slot-size * a
 unfolding slot
-slot-in a h = rw (lt-ltb a 33 h)
+slot-in a h = rw (lt-ltb a slot-count h)
 
 -- Words are the same just where targets are.
 pub targets-tell : {g : Graph} → length (g .regions) ≤ 32 → {a b : ℕ} {x y : DeferredTarget} → ShowsTarget g a x → ShowsTarget g b y

@@ -28,8 +28,8 @@ use Rattle.state_shown.specs.Kept.{PreservesMade, KeptRegion}
 use Rattle.state_shown.specs.laws.RegionsKept.{preserves-same, preserves-then, kept-same, kept-then, region-stays, set-stays}
 use Rattle.state_shown.specs.laws.RegionsKept.{same-bundle}
 use Rattle.meaning.specs.facts.Parts.{run-before, run-behind}
-use Rattle.state_words.specs.Rows.{bundle-row-at, bundle-word-at, cases-at, cells-at, kind-ready, level-at, merges-at, no-total}
-use Rattle.state_words.specs.Rows.{region-kind}
+use Rattle.state_words.specs.Rows.{bundle-row-at, bundle-word-at, cases-at, cells-at, kind-ready, level-at, merges-at, no-total, slot-count}
+use Rattle.state_words.specs.Rows.{region-kind, bundle-row-size}
 use Rattle.state_words.specs.Rows.{regions-at, returned-at, slot-size, types-at}
 
 -- ---- Steps that change one section and one word of the head, by which they are.
@@ -80,7 +80,7 @@ module _ {k : Section} {i : ℕ} {w w′ : List ℕ} (changes : ChangesOnly k i 
         slot = λ j h. bundles-same (changes .others bundles (d .not-bundles) (omega arith)) (word w set-starts q + j);
       }
 
-  pub tables-by : Elsewhere k → ((q : ℕ) → q < 7 → (q ≡ 4 → ⊥) → q ≡ i → ⊥) → SameTables w w′
+  pub tables-by : Elsewhere k → ((q : ℕ) → q < cases-at → (q ≡ cells-at → ⊥) → q ≡ i → ⊥) → SameTables w w′
   tables-by d t =
       record {
         words = changes .words;
@@ -92,7 +92,7 @@ module _ {k : Section} {i : ℕ} {w w′ : List ℕ} (changes : ChangesOnly k i 
 -- ---- What the regions' states have besides the tables: where nothing of it changes, the words show the same states.
 pub record StatesStay (g : Graph) (w w′ : List ℕ) : Type 0 where
   pub same-kinds : (q : ℕ) → q < length (g .regions) → region-kind w′ q ≡ region-kind w q
-  pub same-starts : (a : ℕ) → a < 33 → word w′ set-starts a ≡ word w set-starts a
+  pub same-starts : (a : ℕ) → a < slot-count → word w′ set-starts a ≡ word w set-starts a
   pub same-returned : (k : ℕ) → returned-at ≤ k → word w′ head k ≡ word w head k
   pub ready-kept : (q : ℕ) → q < length (g .regions) → region-kind w q ≡ kind-ready → KeptRegion w w′ q
 
@@ -116,7 +116,7 @@ states-by changes d e h g =
       ready-kept = λ q a b. kept-by changes d q;
     }
 
-pub slots-stay : {n : ℕ} {w w′ : List ℕ} → ((a : ℕ) → a < 33 → word w′ set-starts a ≡ word w set-starts a) → Slots n w → Slots n w′
+pub slots-stay : {n : ℕ} {w w′ : List ℕ} → ((a : ℕ) → a < slot-count → word w′ set-starts a ≡ word w set-starts a) → Slots n w → Slots n w′
 slots-stay e y =
     record { slot-number = y .slot-number; starts = λ a h. e a (h .below) ∙ y .starts a h; below = y .below; own = y .own }
 
@@ -264,7 +264,7 @@ module _ (g : Graph) (w : List ℕ) where
     pub body-set : r < 32 → (x : ℕ) → word (stored w bodies r x) bodies r ≡ x
     body-set b x = word-there w bodies r x (omega arith) b
 
-    pub length-set-to : r < 33 → {n : ℕ} {d : DeferredEdgeBundleSet} → ShowsSet g w (word w set-starts r) n d
+    pub length-set-to : r < slot-count → {n : ℕ} {d : DeferredEdgeBundleSet} → ShowsSet g w (word w set-starts r) n d
         → ShowsOwnSet g (stored w set-lengths r n) r d
     length-set-to b {n} s =
         let c = word-concerns set-lengths (omega arith) r n in
@@ -333,7 +333,7 @@ module _ (w : List ℕ) (p : ℕ) where
   pub bundle-same : OnlyBundle p w w
   bundle-same = record { changes = nothing-changes bundles cases-at w; same-head = refl; others = λ q d. same-bundle w q }
 
-  pub bundle-word-concerns : (i x : ℕ) → i < 7 → OnlyBundle p w (stored w bundles (bundle-word-at p i) x)
+  pub bundle-word-concerns : (i x : ℕ) → i < bundle-row-size → OnlyBundle p w (stored w bundles (bundle-word-at p i) x)
   bundle-word-concerns i x h =
       record {
         changes = word-changes bundles cases-at w (omega arith) (bundle-word-at p i) x;
@@ -391,7 +391,7 @@ pub record OnlyRegion (g : Graph) (r : ℕ) (w w′ : List ℕ) : Type 0 where
   pub made-stays : PreservesMade g w w′
   pub others : (q : ℕ) → HasSlot (length (g .regions)) q → (q ≡ r → ⊥) → KeptRegion w w′ q
   pub same-kinds : (q : ℕ) → q < length (g .regions) → region-kind w′ q ≡ region-kind w q
-  pub same-starts : (a : ℕ) → a < 33 → word w′ set-starts a ≡ word w set-starts a
+  pub same-starts : (a : ℕ) → a < slot-count → word w′ set-starts a ≡ word w set-starts a
   pub same-returned : (k : ℕ) → returned-at ≤ k → word w′ head k ≡ word w head k
 
 pub only-region-then : {g : Graph} {r : ℕ} {w w₁ w₂ : List ℕ} → OnlyRegion g r w w₁ → OnlyRegion g r w₁ w₂ → OnlyRegion g r w w₂

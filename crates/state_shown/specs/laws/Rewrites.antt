@@ -110,7 +110,7 @@ module _ (w : List ℕ) (r : ℕ) where
         word-apart between rewrites entries-at (r + 1) rewrites i (omega arith)
         ∙ fill-beside rewrites (λ q. rewrite-kind-at q) (λ q. 0) (r - entries w) (entries w) w i d
 
-    newly-none : (q : ℕ) → q < most-regions → entries w ≤ q → q < r → word newly rewrites (rewrite-kind-at q) ≡ 0
+    newly-none : (q : ℕ) → q < most-regions → entries w ≤ q → q < r → word newly rewrites (rewrite-kind-at q) ≡ entry-none
     newly-none q h a b =
         word-apart between rewrites entries-at (r + 1) rewrites (rewrite-kind-at q) (omega arith)
         ∙ fill-there rewrites (λ q. rewrite-kind-at q) (λ q. 0) (λ a b c e. omega arith) (r - entries w) (entries w) w (omega arith) q a

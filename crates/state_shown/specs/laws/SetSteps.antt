@@ -28,7 +28,8 @@ use Rattle.state_shown.specs.laws.SetStores.{OnlySets, only-same, only-w
 use Rattle.state_shown.specs.laws.SetStores.{starts-of-sets}
 use Rattle.state_shown.specs.laws.SetStores.{lengths-of-sets, bundles-of-sets, word-other, run-elsewhere-word, Moves}
 use Rattle.state_shown.specs.laws.SetStores.{moves-then, same-moves, same-elsewhere, bundle-stored, copy-moves, copy-beside}
-use Rattle.state_words.specs.Rows.{bundle-condition, bundle-row-at, bundle-target, bundle-word, most-bundles}
+use Rattle.state_words.specs.Rows.{bundle-condition, bundle-row-at, bundle-target, bundle-word, most-bundles, slot-count, slot-size}
+use Rattle.state_words.specs.Rows.{condition-true, bundle-row-size}
 
 -- ---- Bundles and sets, moved.
 module _ {g : Graph} {w w′ : List ℕ} (made-stays : PreservesMade g w w′) where
@@ -45,7 +46,7 @@ module _ {g : Graph} {w w′ : List ℕ} (made-stays : PreservesMade g w w′) w
       }
 
   -- Bundle j of the new set is bundle f j of the old one.
-  pub set-moves : {start n start′ n′ : ℕ} {d d′ : DeferredEdgeBundleSet} (f : ℕ → ℕ) → n′ ≡ length d′ → n′ ≤ 33 → start′ + n′ ≤ most-bundles
+  pub set-moves : {start n start′ n′ : ℕ} {d d′ : DeferredEdgeBundleSet} (f : ℕ → ℕ) → n′ ≡ length d′ → n′ ≤ slot-size → start′ + n′ ≤ most-bundles
       → ((j : ℕ) → j < n′ → f j < n) → ((i j : ℕ) → i < j → j < n′ → f i ≡ f j → ⊥)
       → ((j : ℕ) → j < n′ → Moves w w′ (start + f j) (start′ + j))
       → ((j : ℕ) → j < n′ → getD d′ j no-bundle ≡ getD d (f j) no-bundle)
@@ -140,7 +141,7 @@ module _ (d : DeferredEdgeBundleSet) (i : ℕ) (h : i < length d) where
 -- ---- A region whose slot is none of those stored into.
 pub kept-beside : {n : ℕ} {w w′ : List ℕ} → OnlySets w w′ → Slots n w → {r q : ℕ} → HasSlot n r → HasSlot n q → (q ≡ r → ⊥)
     → word w′ set-starts q ≡ word w set-starts q → word w′ set-lengths q ≡ word w set-lengths q
-    → ((p : ℕ) → (word w set-starts r ≤ p → p < word w set-starts r + 33 → ⊥) → SameBundle w w′ p) → KeptRegion w w′ q
+    → ((p : ℕ) → (word w set-starts r ≤ p → p < word w set-starts r + slot-size → ⊥) → SameBundle w w′ p) → KeptRegion w w′ q
 kept-beside {w} only slots {r} {q} a b d start length beside =
     only-kept only q start length
     (λ i h. beside (word w set-starts q + i)
@@ -189,7 +190,7 @@ module _ (w : List ℕ) (r b : ℕ) where
       (same-bundle-then (copy-beside w b last-of p d) (same-elsewhere (bundle-copied w b last-of) set-lengths (omega arith) r _ p))
 
 -- The bundle found by its target leaves region r's set: the rest is split-out-target's.
-module _ {g : Graph} {w : List ℕ} (room : used ≤ length w) {r : ℕ} (below : r < 33) {d : DeferredEdgeBundleSet}
+module _ {g : Graph} {w : List ℕ} (room : used ≤ length w) {r : ℕ} (below : r < slot-count) {d : DeferredEdgeBundleSet}
     (shown : ShowsOwnSet g w r d) where
   abbrev own-start : ℕ
   own-start = word w set-starts r
@@ -245,7 +246,7 @@ pub record Shifted (w w′ : List ℕ) (start i k : ℕ) : Type 0 where
   pub beside : (p : ℕ) → (start + i ≤ p → p < start + i + k → ⊥) → SameBundle w w′ p
   pub moved : (j : ℕ) → i ≤ j → j < i + k → Moves w w′ (start + suc j) (start + j)
 
-pub shifts : (w : List ℕ) (start i k : ℕ) → used ≤ length w → start + i + k < most-bundles → i + k < 33
+pub shifts : (w : List ℕ) (start i k : ℕ) → used ≤ length w → start + i + k < most-bundles → i + k < slot-size
     → Shifted w (shifted w start i k) start i k
 unfolding shifted
 shifts w start i zero room a b =
@@ -287,10 +288,10 @@ pub record ShiftRemoved (g : Graph) (w w′ : List ℕ) (r i : ℕ) (d : Deferre
   pub only : OnlySets w w′
   pub starts : (q : ℕ) → word w′ set-starts q ≡ word w set-starts q
   pub lengths : (q : ℕ) → (q ≡ r → ⊥) → word w′ set-lengths q ≡ word w set-lengths q
-  pub beside : (p : ℕ) → (word w set-starts r ≤ p → p < word w set-starts r + 33 → ⊥) → SameBundle w w′ p
+  pub beside : (p : ℕ) → (word w set-starts r ≤ p → p < word w set-starts r + slot-size → ⊥) → SameBundle w w′ p
   pub set : ShowsOwnSet g w′ r (take i d ++ drop (suc i) d)
 
-pub shift-removes : {g : Graph} {w : List ℕ} → used ≤ length w → {r : ℕ} → r < 33 → {d : DeferredEdgeBundleSet} → ShowsOwnSet g w r d →
+pub shift-removes : {g : Graph} {w : List ℕ} → used ≤ length w → {r : ℕ} → r < slot-count → {d : DeferredEdgeBundleSet} → ShowsOwnSet g w r d →
     (i : ℕ)
     → i < length d → ShiftRemoved g w (shift-removed w r i) r i d
 unfolding shift-removed
@@ -338,7 +339,7 @@ shift-removes {g} {w} room {r} below {d} shown i h =
     }
 
 -- ---- Two slots change hands.
-module _ (w : List ℕ) (room : used ≤ length w) (a b : ℕ) (at-a : a < 33) (at-b : b < 33) where
+module _ (w : List ℕ) (room : used ≤ length w) (a b : ℕ) (at-a : a < slot-count) (at-b : b < slot-count) where
   abbrev first-stored : List ℕ
   first-stored = stored w set-starts a (word w set-starts b)
 
@@ -433,7 +434,7 @@ module _ (w : List ℕ) (room : used ≤ length w) (a b : ℕ) (at-a : a < 33) (
 
 -- ---- The condition of a bundle in its set.
 pub condition-shown : {g : Graph} {w : List ℕ} {start n : ℕ} {d : DeferredEdgeBundleSet} → ShowsSet g w start n d → (i : ℕ) → i < n
-    → ShowsCondition w (pick (eqb n 1) 1 (bundle-condition w (start + i))) (condition-in d (getD d i no-bundle))
+    → ShowsCondition w (pick (eqb n 1) condition-true (bundle-condition w (start + i))) (condition-in d (getD d i no-bundle))
 condition-shown {n} {d} x i h =
     let size = x .size in
     elim (ℕ-discrete n 1) [
@@ -449,8 +450,8 @@ pub bundle-made : {g : Graph} (w : List ℕ) (p : ℕ) {t n c : ℕ} (ws : List 
     → ShowsBundle g (stored-all w bundles (bundle-row-at p) (t ∷ n ∷ c ∷ ws)) p (edge-bundle x n vs y)
 bundle-made {g} w p {t} {n} {c} ws room h four target condition size few names =
     let xs = t ∷ n ∷ c ∷ ws in
-    let seven : length xs ≡ 7 = ap (λ m. suc (suc (suc m))) four in
-    let at : (i : ℕ) → i < 7 → bundle-word (stored-all w bundles (bundle-row-at p) xs) p i ≡ getD xs i 0 =
+    let seven : length xs ≡ bundle-row-size = ap (λ m. suc (suc (suc m))) four in
+    let at : (i : ℕ) → i < bundle-row-size → bundle-word (stored-all w bundles (bundle-row-at p) xs) p i ≡ getD xs i 0 =
     λ i k. bundle-stored w p xs seven room h i k in
     let made-stays = only-preserves (only-run w bundles-of-sets (bundle-row-at p) xs) g in
     record {

@@ -26,7 +26,7 @@ use Rattle.state_shown.specs.laws.RegionsKept.{region-stays}
 use Rattle.meaning.specs.facts.Parts.{run-before, run-behind, run-in}
 use Rattle.state_shown.specs.laws.RegionSteps.{bundle-run, named-stay}
 use Rattle.state_words.specs.Rows.{bundle-row-at, bundle-word, bundle-word-at, cases-at, cells-at, kind-ready, level-at, merges-at}
-use Rattle.state_words.specs.Rows.{most-bundles, region-kind, returned-at, slot-size, types-at}
+use Rattle.state_words.specs.Rows.{most-bundles, region-kind, returned-at, slot-size, types-at, bundle-row-size}
 
 -- ---- A word of a section.
 module _ (w : List ℕ) (k : Section) (i x : ℕ) where
@@ -185,7 +185,7 @@ module _ {w w′ : List ℕ} (only : OnlySets w w′) where
 
 -- ---- Bundle q has the words that bundle p had.
 pub record Moves (w w′ : List ℕ) (p q : ℕ) : Type 0 where
-  pub words : (i : ℕ) → i < 7 → bundle-word w′ q i ≡ bundle-word w p i
+  pub words : (i : ℕ) → i < bundle-row-size → bundle-word w′ q i ≡ bundle-word w p i
 
 pub moves-then : {w w₁ w₂ : List ℕ} {p q r : ℕ} → Moves w w₁ p q → Moves w₁ w₂ q r → Moves w w₂ p r
 moves-then a b = record { words = λ i h. b .words i h ∙ a .words i h }
@@ -202,15 +202,15 @@ pub same-elsewhere-run : (w : List ℕ) (k : Section) → (number sections.bundl
 same-elsewhere-run w k d i xs p = record { words = λ j h. run-elsewhere-word w k i xs bundles d (bundle-word-at p j) }
 
 -- A bundle stored whole, and the others.
-module _ (w : List ℕ) (p : ℕ) (xs : List ℕ) (seven : length xs ≡ 7) where
-  pub bundle-stored : used ≤ length w → p < most-bundles → (i : ℕ) → i < 7 → word (stored-all w bundles (bundle-row-at p) xs) bundles
+module _ (w : List ℕ) (p : ℕ) (xs : List ℕ) (seven : length xs ≡ bundle-row-size) where
+  pub bundle-stored : used ≤ length w → p < most-bundles → (i : ℕ) → i < bundle-row-size → word (stored-all w bundles (bundle-row-at p) xs) bundles
       (bundle-word-at p i) ≡ getD xs i 0
   bundle-stored room h i j = run-word w bundles (bundle-row-at p) xs (omega arith) (omega arith) i (omega arith)
 
   pub bundle-beside : (q : ℕ) → (q ≡ p → ⊥) → SameBundle w (stored-all w bundles (bundle-row-at p) xs) q
   bundle-beside q d = bundle-run w p xs (omega arith) .others q d
 
-bundle-words-at : (w : List ℕ) (p i : ℕ) → i < 7 → getD (bundle-words w p) i 0 ≡ bundle-word w p i
+bundle-words-at : (w : List ℕ) (p i : ℕ) → i < bundle-row-size → getD (bundle-words w p) i 0 ≡ bundle-word w p i
 bundle-words-at w p zero h = refl
 bundle-words-at w p (suc zero) h = refl
 bundle-words-at w p (suc (suc zero)) h = refl

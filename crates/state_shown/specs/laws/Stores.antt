@@ -9,7 +9,7 @@ use lib.Seq.{sets, getD-set-same, getD-set-other}
 use Rattle.state_words.specs.Sections as sections
 use Rattle.state_words.specs.Sections.{Section, head, number, start, size, used, part, section, word, stored, stored-at, stored-all}
 use Rattle.state_words.specs.Sections.{stored-all-at}
-use Rattle.state_words.specs.laws.Apart.{stored-length, part-stored, section-stored, section-other}
+use Rattle.state_words.specs.laws.Apart.{same-start, same-size, stored-length, part-stored, section-stored, section-other}
 
 -- ---- A run of words in its section, and in the others.
 module _ (o n : ℕ) where
@@ -52,7 +52,7 @@ word-there l k i x s h =
 pub word-apart : (l : List ℕ) (k : Section) (i x : ℕ) (j : Section) (q : ℕ) → (q ≡ i → ⊥) → word (stored l k i x) j q ≡ word l j q
 word-apart l k i x j q d =
     elim (ℕ-discrete (number j) (number k)) [
-      | yes e ↦ rw (e, part-stored (start k) (size k) l i x) (getD-set-other (section l k) i q x 0 d)
+      | yes e ↦ rw (same-start j k e, same-size j k e, part-stored (start k) (size k) l i x) (getD-set-other (section l k) i q x 0 d)
       | no n ↦ ap (λ p. getD p q 0) (section-other l k i x j n)
     ]
 

@@ -9,7 +9,7 @@ use borrow.Author.Tests.{lt-ltb, le-ltb, eq-eqb, ne-eqb, eqb-true}
 use Rattle.meaning.specs.Graph.{Value, const, input, instr, output, bool, undef, held, no-value, code-of, same-value}
 use Rattle.meaning.specs.facts.Tests.{clash}
 use Rattle.meaning.specs.facts.Tests.{and-both}
-use Rattle.state_words.specs.Values.{input-region, input-index, output-word, undef-word, region-word}
+use Rattle.state_words.specs.Values.{input-region, input-index, output-word, undef-word, region-word, bool-from, false-word, true-word}
 use Rattle.nesting.specs.Nesting.{most-regions, most-outputs}
 use Rattle.state_shown.specs.Values.{value}
 use Rattle.state_words.specs.Values.{held-from, input-from, input-word-at, instr-from, instr-word-at, names-nothing, output-from}
@@ -17,9 +17,9 @@ use Rattle.state_words.specs.Values.{undef-from}
 
 -- By which range a word stands for its value.
 pub data Ranged (x : ℕ) (v : Value) : Type 0 where
-  in-const : x < 64 → v ≡ const x → Ranged x v
-  in-false : x ≡ 64 → v ≡ bool false → Ranged x v
-  in-true : x ≡ 65 → v ≡ bool true → Ranged x v
+  in-const : x < bool-from → v ≡ const x → Ranged x v
+  in-false : x ≡ false-word → v ≡ bool false → Ranged x v
+  in-true : x ≡ true-word → v ≡ bool true → Ranged x v
   in-undef : undef-from ≤ x → x < output-from → v ≡ undef (x - undef-from) → Ranged x v
   in-output : output-from ≤ x → x < input-from → v ≡ output (x - output-from) → Ranged x v
   in-input : input-from ≤ x → x < held-from → v ≡ input (input-region x) (input-index x) → Ranged x v
@@ -30,7 +30,7 @@ pub data Ranged (x : ℕ) (v : Value) : Type 0 where
 above : (x : ℕ) → instr-from ≤ x → Ranged x (value x)
 unfolding value
 above x h =
-    let n : 64 ≤ x = omega arith in
+    let n : bool-from ≤ x = omega arith in
     let p : undef-from ≤ x = omega arith in
     let q : output-from ≤ x = omega arith in
     let r : input-from ≤ x = omega arith in
@@ -45,14 +45,14 @@ above x h =
 pub ranged : (x : ℕ) → Ranged x (value x)
 unfolding value
 ranged x =
-    elim (decLt x 64) [
+    elim (decLt x bool-from) [
       | yes a ↦ in-const a (rw (lt-ltb _ _ a))
-      | no a ↦ let n : 64 ≤ x = omega arith in
-          elim (decLt x 65) [
-            | yes b ↦ (let e : x ≡ 64 = omega arith in in-false e (rw e))
+      | no a ↦ let n : bool-from ≤ x = omega arith in
+          elim (decLt x true-word) [
+            | yes b ↦ (let e : x ≡ false-word = omega arith in in-false e (rw e))
             | no b ↦
                 elim (decLt x undef-from) [
-                  | yes c ↦ (let e : x ≡ 65 = omega arith in in-true e (rw e))
+                  | yes c ↦ (let e : x ≡ true-word = omega arith in in-true e (rw e))
                   | no c ↦ let p : undef-from ≤ x = omega arith in
                       elim (decLt x output-from) [
                         | yes d ↦ in-undef p d (rw (le-ltb _ _ n, le-ltb _ _ p, lt-ltb _ _ d))

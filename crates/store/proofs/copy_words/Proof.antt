@@ -18,8 +18,8 @@ Inv-loop bytes words₀ w at₀ j₀ words at j = (j ≤ w) × ((at ≡ byte-pla
 abbrev μ-loop : tie.MeasureT-loop
 μ-loop bytes words₀ w at₀ j₀ words at j = w - j
 
-span-requires : tie.Need-span-requires Inv-loop μ-loop
-span-requires c κs = search needs
+tells-length-requires : tie.Need-tells-length-requires Inv-loop μ-loop
+tells-length-requires c κs = search needs
 
 loop-holds : tie.Need-loop-holds Inv-loop μ-loop
 unfolding tabulate
@@ -82,7 +82,7 @@ copy-words-spec =
     (tie.spec
     Inv-loop
     μ-loop
-    span-requires
+    tells-length-requires
     loop-holds
     pair-at-requires
     mul-words

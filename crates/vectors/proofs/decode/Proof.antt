@@ -16,11 +16,11 @@ Inv-loop digits bytes₀ n₀ bytes n =
 abbrev μ-loop : tie.MeasureT-loop
 μ-loop digits bytes₀ n₀ bytes n = length digits - n
 
-span-requires : tie.Need-span-requires Inv-loop μ-loop
-span-requires c κs = search needs
+tells-length-requires : tie.Need-tells-length-requires Inv-loop μ-loop
+tells-length-requires c κs = search needs
 
 loop-holds : tie.Need-loop-holds Inv-loop μ-loop
-loop-holds c = (omega arith, (c .before .span-arg2 .given .0, refl))
+loop-holds c = (omega arith, (c .before .tells-length-arg2 .given .0, refl))
 
 mul-loop : tie.Need-mul-loop Inv-loop μ-loop
 mul-loop c = search needs
@@ -74,7 +74,7 @@ decode-spec =
     (tie.spec
     Inv-loop
     μ-loop
-    span-requires
+    tells-length-requires
     loop-holds
     mul-loop
     add-loop

@@ -4,8 +4,8 @@ use borrow.Author.Needs.{needs}
 use Rattle.vectors.proofs.keep.Statement.{statement}
 use Rattle.vectors.proofs.keep.Tie as tie
 
-span-requires : tie.Need-span-requires
-span-requires c κs = search needs
+tells-length-requires : tie.Need-tells-length-requires
+tells-length-requires c κs = search needs
 
 element-write-text : tie.Need-element-write-text
 element-write-text c = search needs
@@ -15,15 +15,15 @@ add-t13 c = search needs
 
 returns : tie.Need-returns
 returns c =
-    let at-span-arg2 = c .before .before .before in
-    let start = at-span-arg2 .before .before in
-    record { reads = rw (kept-more _ _ (start .args .b) (at-span-arg2 .span-arg2 .given .0) (c .if1 .taken)); within = λ h. omega arith }
+    let at-tells-length-arg2 = c .before .before .before in
+    let start = at-tells-length-arg2 .before .before in
+    record { reads = rw (kept-more _ _ (start .args .b) (at-tells-length-arg2 .tells-length-arg2 .given .0) (c .if1 .taken)); within = λ h. omega arith }
 
 returns-2 : tie.Need-returns-2
 returns-2 c =
-    let at-span-arg2 = c .before .before .before in
-    let start = at-span-arg2 .before .before in
-    record { reads = rw (kept-full _ _ (start .args .b) (at-span-arg2 .span-arg2 .given .0) (c .if1 .left)); within = λ h. h }
+    let at-tells-length-arg2 = c .before .before .before in
+    let start = at-tells-length-arg2 .before .before in
+    record { reads = rw (kept-full _ _ (start .args .b) (at-tells-length-arg2 .tells-length-arg2 .given .0) (c .if1 .left)); within = λ h. h }
 
 pub keep-spec : {M : Type 1} → statement M
-keep-spec = tie.close (tie.spec span-requires element-write-text add-t13 returns returns-2)
+keep-spec = tie.close (tie.spec tells-length-requires element-write-text add-t13 returns returns-2)

@@ -139,7 +139,7 @@ pub owed-stays : (g : Graph) (w w′ : List ℕ) → ((q : ℕ) → q < length (
 unfolding cells-owed
 owed-stays g w w′ h = owed-same (section w kinds) (section w′ kinds) (length (g .regions)) h
 
-owed-none-begun : (l : List ℕ) (n : ℕ) → ((q : ℕ) → q < n → getD l q 0 ≡ 0) → owed-below n l ≡ 20 * n
+owed-none-begun : (l : List ℕ) (n : ℕ) → ((q : ℕ) → q < n → getD l q 0 ≡ kind-not-begun) → owed-below n l ≡ 20 * n
 owed-none-begun l zero h = refl
 owed-none-begun l (suc n) h = let z = owed-none-begun l n (λ q b. h q (omega arith)) in rw (h n (omega arith)) (omega arith)
 

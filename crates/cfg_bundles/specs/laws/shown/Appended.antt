@@ -36,7 +36,7 @@ use Rattle.state_shown.specs.laws.Finds.{bundle-in}
 use Rattle.cfg_bundles.specs.EdgesAndCases.{case-inputs, Appends, appended, its-edge, its-rest}
 use Rattle.cfg_bundles.specs.laws.shown.CaseSteps.{CaseAndSet}
 use Rattle.state_words.specs.Rows.{bundle-row-at, case-claimed, case-input, case-own-edge, case-set-length, case-set-start, cells-at}
-use Rattle.state_words.specs.Rows.{entry-replace, kind-claimed, kind-ready, most-cells, region-kind}
+use Rattle.state_words.specs.Rows.{entry-replace, kind-claimed, kind-ready, most-cells, region-kind, slot-size}
 
 -- ---- A case that is to stand alone, by its parts; its inputs stand in row j.
 pub data ShowsAlone (g : Graph) (w : List ℕ) (r j : ℕ) (x : Case) : MaybeClaimedRegion → Type 0 where
@@ -179,9 +179,9 @@ slot-taken : {g : Graph} → length (g .regions) ≤ 32 → {r o : ℕ} → r < 
     → ShowsSet g w (word w set-starts o) n d
     → SlotTaken g w (stored (swapped (stored w₂ children r h) r o) set-lengths r n) s r o (region-body ks d)
 slot-taken {g} few {r} {o} here there {w} {w₂} {s} {h} {ks} x {n} {d} set =
-    let in-33 : (q : ℕ) → q < length (g .regions) → q < 33 = λ q k. omega arith in
-    let r-33 = in-33 r here in
-    let o-33 = in-33 o there in
+    let in-slots : (q : ℕ) → q < length (g .regions) → q < slot-size = λ q k. omega arith in
+    let r-slot = in-slots r here in
+    let o-slot = in-slots o there in
     let r-32 : r < 32 = omega arith in
     let few-bundles = set .few in
     let set₂ : ShowsSet g w₂ (word w set-starts o) n d = set-stays (x .made-stays) (λ i k. x .kept o .slot i (omega arith)) set in
@@ -191,19 +191,19 @@ slot-taken {g} few {r} {o} here there {w} {w₂} {s} {h} {ks} x {n} {d} set =
     let nodes₃ = children-set g w₂ (x .state .tables .size) r r-32 (x .nodes) in
     let room₃ = state₃ .tables .size in
     let w₄ = swapped w₃ r o in
-    let only₄ = swapped-only w₃ room₃ r o r-33 o-33 in
+    let only₄ = swapped-only w₃ room₃ r o r-slot o-slot in
     let made-stays₄ = only-preserves only₄ g in
     let kind-r : region-kind w₃ r ≡ kind-ready → ⊥ = λ e. x .unready (sym (c₃ .same-kinds r) ∙ e) in
     let kind-o : region-kind w₃ o ≡ kind-claimed = c₃ .same-kinds o ∙ x .origin-claimed in
-    let state₄ = only-state only₄ (swapped-slots w₃ room₃ r o r-33 o-33 (omega arith) (omega arith) (state₃ .slots))
-    (λ q k e. swapped-kept w₃ room₃ r o r-33 o-33 q (λ f. kind-r (ap (λ b. region-kind w₃ b) (sym f) ∙ e))
+    let state₄ = only-state only₄ (swapped-slots w₃ room₃ r o r-slot o-slot (omega arith) (omega arith) (state₃ .slots))
+    (λ q k e. swapped-kept w₃ room₃ r o r-slot o-slot q (λ f. kind-r (ap (λ b. region-kind w₃ b) (sym f) ∙ e))
     (λ f. let z : region-kind w₃ o ≡ kind-ready = ap (λ b. region-kind w₃ b) (sym f) ∙ e in omega (arith, kind-o, z))) state₃ in
     let room₄ = state₄ .tables .size in
     let kind₄ : region-kind w₄ r ≡ kind-ready → ⊥ = λ e. kind-r (sym (only-word-same only₄ kinds (omega arith) r) ∙ e) in
     let start₃ : word w₃ set-starts o ≡ word w set-starts o = c₃ .same-starts o ∙ x .kept o .set-start in
     let set₃ : ShowsSet g w₃ (word w₃ set-starts o) n d =
     rw start₃ (set-stays (c₃ .made-stays) (λ i k. same-elsewhere w₂ children (omega arith) r h _) set₂) in
-    let set₄ = swapped-first-set w₃ room₃ r o r-33 o-33 set₃ in
+    let set₄ = swapped-first-set w₃ room₃ r o r-slot o-slot set₃ in
     let c₅ = word-concerns g w₄ set-lengths (omega arith) r n in
     let handle₄ : word w₄ children r ≡ word w₃ children r = only-word-same only₄ children (omega arith) r in
     let handle₅ : word (stored w₄ set-lengths r n) children r ≡ word w₃ children r =
@@ -214,12 +214,12 @@ slot-taken {g} few {r} {o} here there {w} {w₂} {s} {h} {ks} x {n} {d} set =
       body =
           record {
             nodes = rw handle₅ (c₅ .made-stays .nodes-stay (made-stays₄ .nodes-stay nodes₃));
-            set = length-set-to g w₄ room₄ r r-33 set₄;
+            set = length-set-to g w₄ room₄ r r-slot set₄;
           };
       made-stays = preserves-then (x .made-stays) (preserves-then (c₃ .made-stays) (preserves-then made-stays₄ (c₅ .made-stays)));
       kept = λ q k a b.
           kept-then (x .kept q)
-          (kept-then (c₃ .others q k a) (kept-then (swapped-kept w₃ room₃ r o r-33 o-33 q a b) (c₅ .others q k a)));
+          (kept-then (c₃ .others q k a) (kept-then (swapped-kept w₃ room₃ r o r-slot o-slot q a b) (c₅ .others q k a)));
       cells-to = rw total₅ (x .cells-to);
     }
 

@@ -19,7 +19,7 @@ use Rattle.state_shown.specs.laws.SetStores.{cases-of-sets, run-word, run-besid
 use Rattle.state_shown.specs.laws.SetStores.{run-elsewhere-word, same-elsewhere-run}
 use Rattle.cfg_bundles.specs.EdgesAndCases.{claimed-case, unclaimed-case, edge-deferred}
 use Rattle.cfg_bundles.specs.laws.shown.Deferred.{edge-deferred-only, edge-deferred-beside, edge-deferred-word}
-use Rattle.state_words.specs.Rows.{case-claimed, case-kind, case-nothing, case-origin, case-others, case-own-edge, case-row-at}
+use Rattle.state_words.specs.Rows.{case-claimed, case-kind, case-nothing, case-origin, case-others, case-own-edge, case-row-at, slot-size}
 use Rattle.state_words.specs.Rows.{case-row-size}
 use Rattle.state_words.specs.Rows.{case-set-length, case-set-start, case-word, case-word-at, cases-at, level-at, own-edges-from, spare-slot}
 
@@ -71,7 +71,7 @@ one-edge g w r j h =
     }
 
 -- The bundles of slots lie before those of own edges.
-pub in-slots : {n : ℕ} {w : List ℕ} → Slots n w → (q i : ℕ) → HasSlot n q → i < 33 → word w set-starts q + i < own-edges-from
+pub in-slots : {n : ℕ} {w : List ℕ} → Slots n w → (q i : ℕ) → HasSlot n q → i < slot-size → word w set-starts q + i < own-edges-from
 in-slots slots q i h j = let a = slots .starts q h in let b = slots .below q h in omega arith
 
 pub one-kept : {n : ℕ} {w w′ : List ℕ} {j : ℕ} → OneCase w w′ j → Slots n w → (q : ℕ) → HasSlot n q → KeptRegion w w′ q
@@ -101,7 +101,7 @@ case-placed {r} few here (shows-others a b) = in-slot r here (omega arith) (of-o
 
 pub placed-apart : {m : ℕ} {w : List ℕ} → Slots m w → {r i j : ℕ} → i < 8 → j < 8 → (i ≡ j → ⊥)
     → ((a b : ℕ) → Owner w r i a → Owner w r j b → a ≡ b → ⊥) → CasePlaced m w r i → CasePlaced m w r j
-    → case-set-length w i ≤ 33 → case-set-length w j ≤ 33 → (p q : ℕ) → p < case-set-length w i
+    → case-set-length w i ≤ slot-size → case-set-length w j ≤ slot-size → (p q : ℕ) → p < case-set-length w i
     → q < case-set-length w j → case-set-start w i + p ≡ case-set-start w j + q → ⊥
 placed-apart slots i8 j8 d owners (in-slot a l h o e) (in-slot b v k u f) m n p q x y z =
     let s = slots .starts a (omega arith) in
@@ -117,14 +117,14 @@ placed-apart slots i8 j8 d owners (in-own e h) (in-own f k) m n p q x y z = d (o
 placed-apart slots i8 j8 d owners (in-own e h) (nowhere f) m n p q x y z = omega arith
 placed-apart slots i8 j8 d owners (nowhere e) y m n p q x u z = omega arith
 
-pub placed-not-spare : {m : ℕ} {w : List ℕ} → Slots m w → {r j : ℕ} → CasePlaced m w r j → case-set-length w j ≤ 33 → (p q : ℕ)
-    → p < case-set-length w j → q < 33 → case-set-start w j + p ≡ word w set-starts spare-slot + q → ⊥
+pub placed-not-spare : {m : ℕ} {w : List ℕ} → Slots m w → {r j : ℕ} → CasePlaced m w r j → case-set-length w j ≤ slot-size → (p q : ℕ)
+    → p < case-set-length w j → q < slot-size → case-set-start w j + p ≡ word w set-starts spare-slot + q → ⊥
 placed-not-spare slots (in-slot a l h o e) n p q x y z =
     let s = slots .starts a (omega arith) in
-    let t = slots .starts 32 (omega arith) in
-    let same : slots .slot-number a ≡ slots .slot-number 32 = omega arith in
-    let is = slots .own a 32 (omega arith) (omega arith) same in omega arith
-placed-not-spare slots (in-own e h) n p q x y z = let s = in-slots slots 32 q (omega arith) y in omega arith
+    let t = slots .starts spare-slot (omega arith) in
+    let same : slots .slot-number a ≡ slots .slot-number spare-slot = omega arith in
+    let is = slots .own a spare-slot (omega arith) (omega arith) same in omega arith
+placed-not-spare slots (in-own e h) n p q x y z = let s = in-slots slots spare-slot q (omega arith) y in omega arith
 placed-not-spare slots (nowhere e) n p q x y z = omega arith
 
 -- ---- A case with its set.
@@ -179,7 +179,7 @@ module _ {g : Graph} (w : List ℕ) (room : used ≤ length w) {r j : ℕ} (belo
   claimed-row {c} ws four x names =
       let o = c .origin in
       let xs = case-words (claimed-case w o) ++ ws in
-      let ten : length xs ≡ 10 = ap (λ n. suc (suc (suc (suc (suc (suc n)))))) four in
+      let ten : length xs ≡ case-row-size = ap (λ n. suc (suc (suc (suc (suc (suc n)))))) four in
       let one = one-row w j xs (omega arith) in
       let made-stays = only-preserves (one .only) g in
       let at : (k : ℕ) → k < 10 → case-word (stored-all w cases (case-row-at j) xs) j k ≡ getD xs k 0 =

@@ -11,8 +11,8 @@ target-input-requires c κs = search needs
 returns : tie.Need-returns
 returns c = λ g s. input-there (λ e. c .if1 .taken (c .before .target-input .ensures ∙ e)) refl
 
-target-type-requires : tie.Need-target-type-requires
-target-type-requires c κs = search needs
+target-input-type-requires : tie.Need-target-input-type-requires
+target-input-type-requires c κs = search needs
 
 values-in-cases-requires : tie.Need-values-in-cases-requires
 values-in-cases-requires c κs = search needs
@@ -36,12 +36,12 @@ returns-2 : tie.Need-returns-2
 returns-2 c =
     let at-define-output = c .before .before in
     let at-values-in-cases = at-define-output .before .before .before in
-    let at-target-type = at-values-in-cases .before .before in
-    let at-if = at-target-type .before .before in
+    let at-target-input-type = at-values-in-cases .before .before in
+    let at-if = at-target-input-type .before .before in
     let at-target-input = at-if .before in
     input-refused _ _ _ _ _ _ (at-target-input .target-input
     .ensures) (at-if .if1 .left)
-    (at-target-type .target-type .ensures)
+    (at-target-input-type .target-input-type .ensures)
     (at-values-in-cases .values-in-cases .ensures) (at-define-output .define-output .ensures)
     (c .enum-told .given .1)
 
@@ -50,10 +50,10 @@ returns-3 c =
     let at-o = c .before .before .before .before in
     let at-define-output = at-o .before .before in
     let at-values-in-cases = at-define-output .before .before .before in
-    let at-target-type = at-values-in-cases .before .before in
-    let at-if = at-target-type .before .before in
+    let at-target-input-type = at-values-in-cases .before .before in
+    let at-if = at-target-input-type .before .before in
     let at-target-input = at-if .before in
-    input-set _ _ _ _ _ _ (at-target-input .target-input .ensures) (at-if .if1 .left) (at-target-type .target-type
+    input-set _ _ _ _ _ _ (at-target-input .target-input .ensures) (at-if .if1 .left) (at-target-input-type .target-input-type
     .ensures)
     (at-values-in-cases .values-in-cases .ensures)
     (at-define-output .define-output .ensures) (at-o .o .given .1)
@@ -65,7 +65,7 @@ emit-input-spec =
     (tie.spec
     target-input-requires
     returns
-    target-type-requires
+    target-input-type-requires
     values-in-cases-requires
     define-output-requires
     enum-told

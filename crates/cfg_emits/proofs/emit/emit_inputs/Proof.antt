@@ -17,8 +17,8 @@ abbrev μ-loop : tie.MeasureT-loop
 target-requires : tie.Need-target-requires Inv-loop μ-loop
 target-requires c κs = search needs
 
-input-count-requires : tie.Need-input-count-requires Inv-loop μ-loop
-input-count-requires c κs = search needs
+target-input-count-requires : tie.Need-target-input-count-requires Inv-loop μ-loop
+target-input-count-requires c κs = search needs
 
 loop-holds : tie.Need-loop-holds Inv-loop μ-loop
 loop-holds c = (omega arith, begins-by _ _ _)
@@ -34,10 +34,10 @@ returns c =
     let at-emit-input = c .before .before in
     let at-loop-test = at-emit-input .before .before in
     let at-loop = at-loop-test .before in
-    let at-input-count = at-loop .before in
-    let at-target = at-input-count .before .before in
+    let at-target-input-count = at-loop .before in
+    let at-target = at-target-input-count .before .before in
     inputs-by _ _ _ _ (at-target .target .ensures)
-    (at-input-count .input-count .ensures)
+    (at-target-input-count .target-input-count .ensures)
     (refused-by _ _ _ _ _ (at-loop .loop .inv .1) (at-loop-test .loop-test .taken)
     (λ g s. rw (c .enum-told .given .1) at (at-emit-input .emit-input .ensures g s)))
 
@@ -59,7 +59,7 @@ loop-again c = (
 )
 
 returns-2 : tie.Need-returns-2 Inv-loop μ-loop
-returns-2 c = inputs-by _ _ _ _ (c .before .before .before .before .target .ensures) (c .before .before .input-count .ensures)
+returns-2 c = inputs-by _ _ _ _ (c .before .before .before .before .target .ensures) (c .before .before .target-input-count .ensures)
     (over-by _ _ _ _ _ (c .before .loop .inv .1) (c .loop-test .left))
 
 pub emit-inputs-spec : {M : Type 1} → statement M
@@ -69,7 +69,7 @@ emit-inputs-spec =
     Inv-loop
     μ-loop
     target-requires
-    input-count-requires
+    target-input-count-requires
     loop-holds
     emit-input-requires
     enum-told

@@ -20,7 +20,7 @@ use Rattle.state_words.specs.Values.{undef-word, output-word}
 use Rattle.state_shown.specs.Front.{SameKinds}
 use Rattle.state_shown.specs.laws.FrontKept.{kinds-same, kinds-stored, kinds-run, kinds-then, kinds-input-stored}
 use Rattle.cfg_bundles.specs.EdgesAndCases.{input-count, target-type}
-use Rattle.cfg_planning.specs.Planning.{per-case-deferred}
+use Rattle.cfg_planning.specs.Planning.{per-case-deferred, to-define, to-merge}
 use Rattle.state_words.specs.declared.defined.Made.{Made}
 use Rattle.state_words.specs.declared.defined.Made.the-variants.{Done, Full}
 use Rattle.cfg_select_nodes.specs.Turns.{Turns, LeavesRecord}
@@ -93,7 +93,7 @@ front-bundle (bundle-emitted t c) = kinds-then (front-inputs t) (front-condition
 
 -- ---- The functions, path by path.
 module _ (h q : ℕ) (places l : List ℕ) {x : ℕ} {parts l₁ : List ℕ} {a : Defined} (read : x ≡ bundle-condition l q)
-    (open-yet : x ≡ 0) (in-cases : ConditionsIn l places parts) (made : MergeDefined h parts l l₁ a) where
+    (open-yet : x ≡ to-define) (in-cases : ConditionsIn l places parts) (made : MergeDefined h parts l l₁ a) where
   pub condition-refused : a ≡ Refused → EmitCondition h q places l l₁ Full
   condition-refused e = no-condition (sym read ∙ open-yet) in-cases (rw e at made)
 
@@ -102,7 +102,7 @@ module _ (h q : ℕ) (places l : List ℕ) {x : ℕ} {parts l₁ : List ℕ} {a 
   condition-set e p = condition-made (sym read ∙ open-yet) in-cases (rw e at made) p
 
 module _ (node q t : ℕ) (places : List ℕ) (k : ℕ) (l : List ℕ) {x ty : ℕ} {vs l₁ : List ℕ} {a : Defined} (read : x ≡ input-word l q k)
-    (open-yet : x ≡ return-word) (of-type : OfRecord l (λ g. ty ≡ target-type g l t k)) (in-cases : ValuesIn l places k ty vs)
+    (open-yet : x ≡ to-merge) (of-type : OfRecord l (λ g. ty ≡ target-type g l t k)) (in-cases : ValuesIn l places k ty vs)
     (made : OutputDefined node ty vs l l₁ a) where
   pub input-refused : a ≡ Refused → OfRecord l (λ g. EmitInput g node q t places k l l₁ Full)
   input-refused e g s = no-input (sym read ∙ open-yet) (rw (of-type g s) at in-cases) (rw (e, of-type g s) at made)

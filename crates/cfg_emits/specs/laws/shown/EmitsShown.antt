@@ -37,20 +37,21 @@ use Rattle.cfg_emits.specs.laws.shown.Emitting.{Emitting, emitting-none,
 use Rattle.cfg_emits.specs.laws.shown.Emitting.{Spared}
 use Rattle.cfg_emits.specs.laws.shown.Emitting.{spared-stays}
 use Rattle.nesting.specs.steps.TargetsAndCases.{per-cases}
-use Rattle.state_words.specs.Rows.{bundle-condition, bundle-count, bundle-input, bundle-input-at, bundle-target, bundle-word}
-use Rattle.state_words.specs.Rows.{bundle-word-at}
+use Rattle.state_words.specs.Rows.{bundle-condition, bundle-count, bundle-input, bundle-input-at, bundle-target, bundle-word, slot-size}
+use Rattle.state_words.specs.Rows.{bundle-word-at, bundle-row-size, bundle-input-field, condition-true}
 use Rattle.state_words.specs.Rows.{most-bundles}
+use Rattle.cfg_planning.specs.Planning.{to-merge, to-define}
 
 -- ---- What is planned of these cases, as its row shows it.
 pub data PlannedInputOf (g : Graph) (cs : List MaybeClaimedRegion) (x : DeferredTarget) (w : ℕ) (k : ℕ) : PlannedInput → Type 0 where
   is-shared : {v : Value} → Names w v → PlannedInputOf g cs x w k (shared v)
-  is-merged : {ty : ℕ} {vs : List Value} → w ≡ 65535 → ty ≡ nesting.target-type g x k
+  is-merged : {ty : ℕ} {vs : List Value} → w ≡ to-merge → ty ≡ nesting.target-type g x k
       → vs ≡ map (nesting.value-in-case k ty) (per-cases x cs)
       → PlannedInputOf g cs x w k (merged ty vs)
 
 pub data PlannedConditionOf (cs : List MaybeClaimedRegion) (x : DeferredTarget) (w : ℕ) : Option LazyConds → Type 0 where
-  is-true : w ≡ 1 → PlannedConditionOf cs x w none
-  is-open : {ts : LazyConds} → w ≡ 0 → ts ≡ conditions-of (per-cases x cs) → PlannedConditionOf cs x w (some ts)
+  is-true : w ≡ condition-true → PlannedConditionOf cs x w none
+  is-open : {ts : LazyConds} → w ≡ to-define → ts ≡ conditions-of (per-cases x cs) → PlannedConditionOf cs x w (some ts)
 
 abbrev pub no-planned-input : PlannedInput
 no-planned-input = shared (undef 0)
@@ -73,7 +74,7 @@ emit-one n (merged ty vs) = define-output (n .node) ty vs
 record InputDone (g : Graph) (q k : ℕ) (w w′ : List ℕ) (v : Value) (s : NestState) : Type 0 where
   emitting : Emitting g q (q + 1) w w′
   tables : ShowsTables w′ s
-  others : (i : ℕ) → i < 7 → (i ≡ 3 + k → ⊥) → bundle-word w′ q i ≡ bundle-word w q i
+  others : (i : ℕ) → i < bundle-row-size → (i ≡ bundle-input-field k → ⊥) → bundle-word w′ q i ≡ bundle-word w q i
   named : Names (bundle-input w′ q k) v
 
 -- Those from place k on.
@@ -118,7 +119,7 @@ with-input {k} {many} {w′} {v} first h (shows-made {a = vs} rest) =
 with-input first h shows-refused = shows-refused
 
 module _ {g : Graph} {r base : ℕ} {cs : List MaybeClaimedRegion} (few : length (g .regions) ≤ 32) (small : SmallTypes g)
-    (n : DefinedSelect) (q : ℕ) (from : base ≤ q) (to : q < base + 33) (room : q < most-bundles)
+    (n : DefinedSelect) (q : ℕ) (from : base ≤ q) (to : q < base + slot-size) (room : q < most-bundles)
     {t : ℕ} {x : DeferredTarget} (target : ShowsTarget g t x) (most : target-size g x ≤ 4) (places : List ℕ) where
   module _ {w : List ℕ} (here : Spared g r base cs w) (at : ShowsPlaces w x cs places) {s : NestState} (tables : ShowsTables w s) (k : ℕ)
       (below : k < target-size g x) where
@@ -137,11 +138,11 @@ module _ {g : Graph} {r base : ℕ} {cs : List MaybeClaimedRegion} (few : length
         (record { emitting = emitting-none g q (q + 1) w; tables = tables; others = λ i h z. refl; named = names }))
     input-shown (is-merged z u v) (input-there d e) = absurd (d (input-is ∙ z))
     input-shown (is-shared names) (input-made e vs o p) =
-        let y : bundle-input w q k ≡ 65535 = sym input-is ∙ e in
+        let y : bundle-input w q k ≡ to-merge = sym input-is ∙ e in
         let b = names .below in
         absurd (omega arith)
     input-shown (is-shared names) (no-input e vs o) =
-        let y : bundle-input w q k ≡ 65535 = sym input-is ∙ e in
+        let y : bundle-input w q k ≡ to-merge = sym input-is ∙ e in
         let b = names .below in
         absurd (omega arith)
     input-shown (is-merged z u v) (input-made {l₁} {o} e vs out p) =

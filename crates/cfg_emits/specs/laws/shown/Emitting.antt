@@ -21,7 +21,7 @@ use Rattle.state_shown.specs.laws.RegionSteps.{slots-stay}
 use Rattle.state_shown.specs.laws.RegionSteps.{bundles-same, preserves-by, bundle-word-concerns}
 use Rattle.cfg_select_nodes.specs.laws.shown.StepsShown.{SelectStep, cases-stay}
 use Rattle.state_words.specs.Rows.{bundle-word-at, case-body-at, case-word-at, level-at, merges-at, no-total, outputs-at, returned-at}
-use Rattle.state_words.specs.Rows.{spare-slot, types-at}
+use Rattle.state_words.specs.Rows.{spare-slot, types-at, bundle-row-size, slot-size}
 
 -- Of the bundles those from a on, before b.
 pub record Emitting (g : Graph) (a b : ℕ) (w w′ : List ℕ) : Type 0 where
@@ -29,7 +29,7 @@ pub record Emitting (g : Graph) (a b : ℕ) (w w′ : List ℕ) : Type 0 where
   pub others : (j : Section) → (number j ≡ number sections.outputs → ⊥) → (number j ≡ number sections.conditions → ⊥)
       → (number j ≡ number sections.bundles → ⊥) → (number j ≡ number sections.head → ⊥)
       → section w′ j ≡ section w j
-  pub totals : (q : ℕ) → (q ≡ 2 → ⊥) → (q ≡ 3 → ⊥) → word w′ head q ≡ word w head q
+  pub totals : (q : ℕ) → (q ≡ merges-at → ⊥) → (q ≡ outputs-at → ⊥) → word w′ head q ≡ word w head q
   pub made-stays : PreservesMade g w w′
   pub beside : (p : ℕ) → (a ≤ p → p < b → ⊥) → SameBundle w w′ p
 
@@ -86,7 +86,7 @@ emitting-condition changes g a b made-stays =
     }
 
 -- A word of bundle p.
-pub emitting-word : (g : Graph) (w : List ℕ) (p i x : ℕ) → i < 7 → Emitting g p (p + 1) w (stored w bundles (bundle-word-at p i) x)
+pub emitting-word : (g : Graph) (w : List ℕ) (p i x : ℕ) → i < bundle-row-size → Emitting g p (p + 1) w (stored w bundles (bundle-word-at p i) x)
 emitting-word g w p i x h =
     let changes = word-changes bundles no-total w (omega arith) (bundle-word-at p i) x in
     record {
@@ -106,7 +106,7 @@ pub record Spared (g : Graph) (r base : ℕ) (cs : List MaybeClaimedRegion) (w :
   pub spare : word w set-starts spare-slot ≡ base
 
 module _ {g : Graph} {r base : ℕ} {cs : List MaybeClaimedRegion} {a b : ℕ} {w w′ : List ℕ} (here : Spared g r base cs w)
-    (x : Emitting g a b w w′) (from : base ≤ a) (to : b ≤ base + 33) where
+    (x : Emitting g a b w w′) (from : base ≤ a) (to : b ≤ base + slot-size) where
   same : (k : Section) → number sections.kinds ≤ number k → number k ≤ number sections.rewrites → (q : ℕ) → word w′ k q ≡ word w k q
   same k h i q = ap (λ l. getD l q 0) (x .others k (omega arith) (omega arith) (omega arith) (omega arith))
 
@@ -130,8 +130,8 @@ module _ {g : Graph} {r base : ℕ} {cs : List MaybeClaimedRegion} {a b : ℕ} {
           target-answers = λ j i. same levels (omega arith) (omega arith) (level-at q j);
           slot = λ j i. x .beside (word w set-starts q + j) (λ c e.
               let u = here .slots .starts q (omega arith) in
-              let v = here .slots .starts 32 (omega arith) in
-              let z : q ≡ 32 = here .slots .own q 32 (omega arith) (omega arith) (omega arith) in
+              let v = here .slots .starts spare-slot (omega arith) in
+              let z : q ≡ spare-slot = here .slots .own q spare-slot (omega arith) (omega arith) (omega arith) in
               omega arith);
         };
         bundles-kept = λ p d. x .beside p (λ c e.

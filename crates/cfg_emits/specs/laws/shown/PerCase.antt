@@ -30,7 +30,7 @@ use Rattle.cfg_emits.specs.Emits.{InCases, value-in-case}
 use Rattle.cfg_emits.specs.laws.paths.EmitsLaws.{value-none, value-some}
 use Rattle.cfg_select_nodes.specs.laws.shown.StepsShown.{SelectStep}
 use Rattle.state_words.specs.Values.{parts, undef-from}
-use Rattle.state_words.specs.Rows.{case-set-length, case-set-start}
+use Rattle.state_words.specs.Rows.{case-set-length, case-set-start, no-bundle-word}
 
 -- ---- The cases' bundles to a target.
 pub record ShowsPlaces (w : List ℕ) (x : DeferredTarget) (cs : List MaybeClaimedRegion) (places : List ℕ) : Type 0 where
@@ -83,7 +83,7 @@ module _ {g : Graph} {w : List ℕ} {start n : ℕ} {d : DeferredEdgeBundleSet} 
             → ShowsCondition w (per-case-condition w j p) (nesting.per-case-deferred x d .condition)
         go [] z h = rw (eq-eqb (case-set-length w j) 0 (omega arith)) record { tree = shows-undef refl; made = omega arith }
         go (y ∷ ys) z h =
-            rw (ne-eqb (case-set-length w j) 0 (omega arith), eq-eqb p 65535 q, h) record
+            rw (ne-eqb (case-set-length w j) 0 (omega arith), eq-eqb p no-bundle-word q, h) record
             { tree = shows-false refl; made = omega arith }
     condition-of-case j e (found i at below gets same before) =
         let size = set .size in
@@ -91,7 +91,7 @@ module _ {g : Graph} {w : List ℕ} {start n : ℕ} {d : DeferredEdgeBundleSet} 
         rw (
           per-case-some x d (getD d i no-bundle) gets,
           ne-eqb (case-set-length w j) 0 (omega arith),
-          ne-eqb p 65535 (omega arith),
+          ne-eqb p no-bundle-word (omega arith),
           at,
           e,
         ) (condition-shown set i (omega arith))

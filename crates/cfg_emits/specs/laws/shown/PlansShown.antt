@@ -25,7 +25,7 @@ use Rattle.cfg_emits.specs.laws.shown.EmitsShown.{PlannedOf}
 use Rattle.cfg_emits.specs.laws.shown.EmitsShown.{no-planned-input}
 use Rattle.cfg_emits.specs.laws.shown.SetsEmitted.{no-plan, ShowsPlan}
 use Rattle.nesting.specs.steps.TargetsAndCases.{per-cases}
-use Rattle.state_words.specs.Rows.{bundle-input, bundle-target, most-bundles, spare-slot}
+use Rattle.state_words.specs.Rows.{bundle-input, bundle-target, most-bundles, spare-slot, condition-true, slot-size}
 
 -- ---- A planned bundle of these cases.
 module _ (g : Graph) (cs : List MaybeClaimedRegion) where
@@ -114,7 +114,7 @@ value-of (is-merged z u v) e = absurd (clash (cc))
 
 true-of : {cs : List MaybeClaimedRegion} {x : DeferredTarget} {a : ℕ} {o : Option LazyConds} → PlannedConditionOf cs x a o
     → is-some o ≡ false
-    → a ≡ 1
+    → a ≡ condition-true
 true-of (is-true z) e = z
 true-of (is-open z u) e = absurd (clash (cc))
 
@@ -140,7 +140,7 @@ shared-shown {p} y e =
           (none-of to-make (p .inputs) (or-left (any to-make (p .inputs)) (is-some (p .condition)) e) k no-planned-input below));
     }
 
-pub shared-set : {g : Graph} {cs : List MaybeClaimedRegion} {w : List ℕ} {base : ℕ} {ps : List PlannedBundle} → base + 33 ≤ most-bundles
+pub shared-set : {g : Graph} {cs : List MaybeClaimedRegion} {w : List ℕ} {base : ℕ} {ps : List PlannedBundle} → base + slot-size ≤ most-bundles
     → ShowsPlan g cs w base ps → any-needs-select ps ≡ false → ShowsSet g w base (length ps) (map shared-bundle ps)
 shared-set {ps} room plan e =
     let same = length-map ps shared-bundle in

@@ -41,7 +41,7 @@ use Rattle.cfg_emits.specs.laws.shown.EmitsShown.{InputsDone}
 use Rattle.cfg_emits.specs.laws.shown.EmitsShown.{inputs-shown}
 use Rattle.nesting.specs.steps.TargetsAndCases.{per-cases}
 use Rattle.state_words.specs.Rows.{bundle-condition, bundle-condition-at, bundle-target, bundle-word, bundle-word-at, cell-word-at}
-use Rattle.state_words.specs.Rows.{cells-at}
+use Rattle.state_words.specs.Rows.{cells-at, bundle-row-size, bundle-condition-field, slot-size}
 use Rattle.state_words.specs.Rows.{most-bundles, select-node, select-scrutinee, select-shape, spare-slot}
 
 -- The cell of a select with this many cases.
@@ -66,7 +66,7 @@ cell-stays x {h} y =
 record ConditionDone (g : Graph) (q : ℕ) (w w′ : List ℕ) (c : LazyCond) (s : NestState) : Type 0 where
   emitting : Emitting g q (q + 1) w w′
   tables : ShowsTables w′ s
-  others : (i : ℕ) → i < 7 → (i ≡ 2 → ⊥) → bundle-word w′ q i ≡ bundle-word w q i
+  others : (i : ℕ) → i < bundle-row-size → (i ≡ bundle-condition-field → ⊥) → bundle-word w′ q i ≡ bundle-word w q i
   shown : ShowsCondition w′ (bundle-condition w′ q) c
 
 module _ {g : Graph} {r base : ℕ} {cs : List MaybeClaimedRegion} (n : DefinedSelect) (h q : ℕ) (room : q < most-bundles)
@@ -126,7 +126,7 @@ pub record BundleDone (g : Graph) (q : ℕ) (w w′ : List ℕ) (e : DeferredEdg
   pub shown : ShowsBundle g w′ q e
 
 module _ {g : Graph} {r base : ℕ} {cs : List MaybeClaimedRegion} (few : length (g .regions) ≤ 32) (small : SmallTypes g)
-    (n : DefinedSelect) (h q : ℕ) (from : base ≤ q) (to : q < base + 33) (room : q < most-bundles)
+    (n : DefinedSelect) (h q : ℕ) (from : base ≤ q) (to : q < base + slot-size) (room : q < most-bundles)
     {w : List ℕ} (here : Spared g r base cs w) {s : NestState} (tables : ShowsTables w s) (cell : ShowsSelectCell h n (length cs) w)
     {p : PlannedBundle} (planned : PlannedOf g cs w q p) where
   abbrev its-places : List ℕ
@@ -263,9 +263,9 @@ with-bundle {base} {i} {many} {e} first (shows-made {a = d} rest) =
 with-bundle first shows-refused = shows-refused
 
 module _ {g : Graph} {r base : ℕ} {cs : List MaybeClaimedRegion} (few : length (g .regions) ≤ 32) (small : SmallTypes g)
-    (n : DefinedSelect) (h : ℕ) (room : base + 33 ≤ most-bundles) where
+    (n : DefinedSelect) (h : ℕ) (room : base + slot-size ≤ most-bundles) where
   rows-shown : (ps : List PlannedBundle) (i : ℕ) {w w′ : List ℕ} {s : NestState} {a : Made} {m : ℕ} → m ≡ length ps
-      → i + length ps ≤ 33 → Spared g r base cs w → ShowsTables w s → ShowsSelectCell h n (length cs) w
+      → i + length ps ≤ slot-size → Spared g r base cs w → ShowsTables w s → ShowsSelectCell h n (length cs) w
       → From no-plan (λ j p. PlannedOf g cs w (base + j) p) i ps → Turns (EmitAt g h base) m i w w′ a
       → ShowsMade (RowsDone g base i w w′ (length ps)) a (emit n ps s)
   unfolding emit
@@ -306,22 +306,22 @@ module _ {g : Graph} {r base : ℕ} {cs : List MaybeClaimedRegion} (few : length
 -- What is planned, a row for each deferred target.
 pub record ShowsPlan (g : Graph) (cs : List MaybeClaimedRegion) (w : List ℕ) (base : ℕ) (ps : List PlannedBundle) : Type 0 where
   pub size : word w set-lengths spare-slot ≡ length ps
-  pub few : length ps ≤ 33
+  pub few : length ps ≤ slot-size
   pub rows : (i : ℕ) → i < length ps → PlannedOf g cs w (base + i) (getD ps i no-plan)
   pub apart : (i j : ℕ) → i < j → j < length ps → bundle-target w (base + i) ≡ bundle-target w (base + j) → ⊥
 
 pub record SetDone (g : Graph) (base : ℕ) (w w′ : List ℕ) (many : ℕ) (d : DeferredEdgeBundleSet) (s : NestState) : Type 0 where
-  pub emitting : Emitting g base (base + 33) w w′
+  pub emitting : Emitting g base (base + slot-size) w w′
   pub tables : ShowsTables w′ s
   pub set : ShowsSet g w′ base many d
 
 module _ {g : Graph} {r : ℕ} {cs : List MaybeClaimedRegion} (few : length (g .regions) ≤ 32) (small : SmallTypes g) (n : DefinedSelect)
     (h : ℕ) {base : ℕ} {w : List ℕ} (here : Spared g r base cs w) {s : NestState} (tables : ShowsTables w s)
     (cell : ShowsSelectCell h n (length cs) w) {ps : List PlannedBundle} (plan : ShowsPlan g cs w base ps) where
-  room : base + 33 ≤ most-bundles
+  room : base + slot-size ≤ most-bundles
   room =
-      let a = here .slots .starts 32 (omega arith) in
-      let b = here .slots .below 32 (omega arith) in
+      let a = here .slots .starts spare-slot (omega arith) in
+      let b = here .slots .below spare-slot (omega arith) in
       let c = here .spare in
       omega arith
 

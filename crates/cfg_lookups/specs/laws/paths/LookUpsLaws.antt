@@ -12,7 +12,7 @@ use Rattle.state_words.specs.Values.{is-input, is-held, input-region, input-ind
 use Rattle.cfg_lookups.specs.declared.look_up.LookUp.{LookUp}
 use Rattle.meaning.specs.Lists.{pick}
 use Rattle.cfg_lookups.specs.LookUps.{plain, kind-at, entry-at, changes-again, stays, renumbers, turns, look-up, Rewrites}
-use Rattle.state_words.specs.Rows.{rewrite-value, twice-at}
+use Rattle.state_words.specs.Rows.{rewrite-value, twice-at, entry-none, entry-replace}
 use Rattle.state_words.specs.Rows.{entry-renumber}
 
 -- ---- A turn of the code's loop, by what it read: the region, its entry's kind, the index, the entry's word.
@@ -25,13 +25,13 @@ module _ (l : List ℕ) (n x r k i y : ℕ) {whole : LookUp} (some-left : 0 < n)
   turn-stays e = rw e at (rw (← again) at left)
 
   module _ (an-input : is-input x ≡ true) (of-region : r ≡ input-region x) (kind : k ≡ rewrite-kind l r) where
-    pub turn-none : k ≡ 0 → plain x ≡ whole
+    pub turn-none : k ≡ entry-none → plain x ≡ whole
     unfolding turns
     turn-none e =
-        let h : kind-at l x ≡ 0 = rw of-region at (sym kind ∙ e) in
-        rw (an-input, eq-eqb (kind-at l x) 0 h) at (rw (← again) at left)
+        let h : kind-at l x ≡ entry-none = rw of-region at (sym kind ∙ e) in
+        rw (an-input, eq-eqb (kind-at l x) entry-none h) at (rw (← again) at left)
 
-    module _ (not-none : k ≡ 0 → ⊥) (index : i ≡ input-index x) (entry : y ≡ rewrite-value l r i) where
+    module _ (not-none : k ≡ entry-none → ⊥) (index : i ≡ input-index x) (entry : y ≡ rewrite-value l r i) where
       kind-is : k ≡ kind-at l x
       kind-is = kind ∙ ap (λ q. rewrite-kind l q) of-region
 
@@ -42,7 +42,7 @@ module _ (l : List ℕ) (n x r k i y : ℕ) {whole : LookUp} (some-left : 0 < n)
       unfolding turns
       there =
           rw (kind-is, entry-is)
-          (rw (an-input, ne-eqb (kind-at l x) 0 (λ e. not-none (kind-is ∙ e))) at (rw (← again) at left))
+          (rw (an-input, ne-eqb (kind-at l x) entry-none (λ e. not-none (kind-is ∙ e))) at (rw (← again) at left))
 
       pub turn-renumbers : renumbers k y ≡ true → plain y ≡ whole
       turn-renumbers e = rw e at there
@@ -59,22 +59,22 @@ module _ (l : List ℕ) (v r k : ℕ) (of-region : r ≡ input-region v) (kind :
   kind-read : k ≡ kind-at l v
   kind-read = kind ∙ ap (λ q. rewrite-kind l q) of-region
 
-  pub again-none : k ≡ 0 → false ≡ changes-again l v
+  pub again-none : k ≡ entry-none → false ≡ changes-again l v
   unfolding changes-again
-  again-none e = rw (eq-eqb (kind-at l v) 0 (sym kind-read ∙ e))
+  again-none e = rw (eq-eqb (kind-at l v) entry-none (sym kind-read ∙ e))
 
-  module _ (not-none : k ≡ 0 → ⊥) where
-    pub again-replaced : k ≡ 1 → true ≡ changes-again l v
+  module _ (not-none : k ≡ entry-none → ⊥) where
+    pub again-replaced : k ≡ entry-replace → true ≡ changes-again l v
     unfolding changes-again
-    again-replaced e = rw (ne-eqb (kind-at l v) 0 (λ h. not-none (kind-read ∙ h)), eq-eqb (kind-at l v) 1 (sym kind-read ∙ e))
+    again-replaced e = rw (ne-eqb (kind-at l v) entry-none (λ h. not-none (kind-read ∙ h)), eq-eqb (kind-at l v) entry-replace (sym kind-read ∙ e))
 
-    pub again-renumbered : (k ≡ 1 → ⊥) → (i y : ℕ) → i ≡ input-index v → y ≡ rewrite-value l r i
+    pub again-renumbered : (k ≡ entry-replace → ⊥) → (i y : ℕ) → i ≡ input-index v → y ≡ rewrite-value l r i
         → not (eqb y v) ≡ changes-again l v
     unfolding changes-again
     again-renumbered d i y index entry =
         rw (
-          ne-eqb (kind-at l v) 0 (λ h. not-none (kind-read ∙ h)),
-          ne-eqb (kind-at l v) 1
+          ne-eqb (kind-at l v) entry-none (λ h. not-none (kind-read ∙ h)),
+          ne-eqb (kind-at l v) entry-replace
               (λ h. d (kind-read ∙ h)),
           entry,
           of-region,
@@ -92,11 +92,11 @@ module _ (l : List ℕ) (v : ℕ) (h : Bool) (test : h ≡ is-held v) where
 
 pub renumbers-held : (kind x : ℕ) (h : Bool) → kind ≡ entry-renumber → h ≡ is-held x → h ≡ renumbers kind x
 unfolding renumbers
-renumbers-held kind x h e p = p ∙ rw (eq-eqb kind 2 e)
+renumbers-held kind x h e p = p ∙ rw (eq-eqb kind entry-renumber e)
 
 pub renumbers-none : (kind x : ℕ) → (kind ≡ entry-renumber → ⊥) → false ≡ renumbers kind x
 unfolding renumbers
-renumbers-none kind x d = rw (ne-eqb kind 2 d)
+renumbers-none kind x d = rw (ne-eqb kind entry-renumber d)
 
 module _ (l : List ℕ) (v : ℕ) (l′ : List ℕ) (found : LookUp) (is : found ≡ look-up l v) where
   pub rewrite-notes : found .twice ≡ true → l′ ≡ stored l head twice-at 1 → Rewrites l v l′ (found .value)

@@ -11,27 +11,27 @@ use lib.Dec.{eqb}
 use borrow.Author.Tests.{lt-ltb, le-ltb, eq-eqb, ne-eqb}
 use Rattle.state_words.specs.declared.defined.Defined.{Defined}
 use Rattle.state_words.specs.declared.defined.Defined.the-variants.{Number, Full}
-use Rattle.state_words.specs.Values.{output-word}
+use Rattle.state_words.specs.Values.{output-word, true-word, false-word}
 use Rattle.state_nodes.specs.NodeTables.{earlier-part, shape-size, OutputDefined}
 use Rattle.cfg_lookups.specs.Materialized.{is-scrutinee, shape-at, part-at, Merges, the-scrutinee, new-output, no-output}
 use Rattle.cfg_lookups.specs.Materialized.{Materializes}
 use Rattle.cfg_lookups.specs.Materialized.{PartsMade, made-merge, full-part, part-more}
-use Rattle.state_words.specs.Rows.{merge-node, merge-scrutinee}
+use Rattle.state_words.specs.Rows.{merge-node, merge-scrutinee, bool-shape, merges-from}
 
 -- ---- The functions, path by path.
 module _ (shape : ℕ) (vs : List ℕ) where
-  pub scrutinee-number : (shape ≡ 0 → ⊥) → false ≡ is-scrutinee shape vs
+  pub scrutinee-number : (shape ≡ bool-shape → ⊥) → false ≡ is-scrutinee shape vs
   unfolding is-scrutinee
-  scrutinee-number d = rw (ne-eqb shape 0 d)
+  scrutinee-number d = rw (ne-eqb shape bool-shape d)
 
-  module _ (bool : shape ≡ 0) where
-    pub scrutinee-not : (getD vs 0 0 ≡ 65 → ⊥) → false ≡ is-scrutinee shape vs
+  module _ (bool : shape ≡ bool-shape) where
+    pub scrutinee-not : (getD vs 0 0 ≡ true-word → ⊥) → false ≡ is-scrutinee shape vs
     unfolding is-scrutinee
-    scrutinee-not d = rw (eq-eqb shape 0 bool, ne-eqb (getD vs 0 0) 65 d)
+    scrutinee-not d = rw (eq-eqb shape bool-shape bool, ne-eqb (getD vs 0 0) true-word d)
 
-    pub scrutinee-if : getD vs 0 0 ≡ 65 → eqb (getD vs 1 0) 64 ≡ is-scrutinee shape vs
+    pub scrutinee-if : getD vs 0 0 ≡ true-word → eqb (getD vs 1 0) false-word ≡ is-scrutinee shape vs
     unfolding is-scrutinee
-    scrutinee-if e = rw (eq-eqb shape 0 bool, eq-eqb (getD vs 0 0) 65 e)
+    scrutinee-if e = rw (eq-eqb shape bool-shape bool, eq-eqb (getD vs 0 0) true-word e)
 
 module _ (l : List ℕ) (c : ℕ) (vs : List ℕ) (shape : ℕ) (b : Bool) (of-shape : shape ≡ shape-at l c)
     (test : b ≡ is-scrutinee shape vs) where
@@ -53,15 +53,15 @@ module _ (l : List ℕ) (c : ℕ) (vs : List ℕ) (shape : ℕ) (b : Bool) (of-s
 pub few-parts : (shape : ℕ) → shape-size shape ≤ 8
 unfolding shape-size
 few-parts shape =
-    elim (ℕ-discrete shape 0) [
-      | yes e ↦ rw (eq-eqb shape 0 e) (omega arith)
+    elim (ℕ-discrete shape bool-shape) [
+      | yes e ↦ rw (eq-eqb shape bool-shape e) (omega arith)
       | no d ↦ elim (decLt shape 8) [
-        | yes h ↦ rw (ne-eqb shape 0 d, lt-ltb shape 8 h) (omega arith)
-        | no h ↦ rw (ne-eqb shape 0 d, le-ltb shape 8 (omega arith)) (omega arith)
+        | yes h ↦ rw (ne-eqb shape bool-shape d, lt-ltb shape 8 h) (omega arith)
+        | no h ↦ rw (ne-eqb shape bool-shape d, le-ltb shape 8 (omega arith)) (omega arith)
       ]
     ]
 
-pub part-below : (p c : ℕ) → 4 ≤ c → earlier-part p c < c
+pub part-below : (p c : ℕ) → merges-from ≤ c → earlier-part p c < c
 unfolding earlier-part
 part-below p c h = elim (decLt p c) [ yes l ↦ rw (lt-ltb p c l) l | no l ↦ rw (le-ltb p c (omega arith)) (omega arith) ]
 
@@ -74,8 +74,8 @@ module _ {l l₁ vs : List ℕ} {c j : ℕ} (n shape : ℕ) (made : PartsMade l 
     pub part-turn : {v : ℕ} → a ≡ Number v → PartsMade l c (j + 1) l₂ (set vs j v)
     part-turn e = part-more made (rw size-is at more) part (rw e at next) refl refl
 
-    pub part-full : 4 ≤ c → a ≡ Full → Materializes l c l₂ Full
+    pub part-full : merges-from ≤ c → a ≡ Full → Materializes l c l₂ Full
     part-full h e = full-part h (rw size-is at more) made part (rw e at next)
 
-  pub parts-all : 4 ≤ c → j ≤ n → n ≤ j → {l′ : List ℕ} {a : Defined} → Merges l₁ c vs l′ a → Materializes l c l′ a
+  pub parts-all : merges-from ≤ c → j ≤ n → n ≤ j → {l′ : List ℕ} {a : Defined} → Merges l₁ c vs l′ a → Materializes l c l′ a
   parts-all h b d m = let e : j ≡ shape-size (shape-at l c) = omega (arith, size-is) in made-merge h (rw e at made) m

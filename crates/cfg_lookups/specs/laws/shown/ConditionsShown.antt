@@ -18,7 +18,7 @@ use Rattle.nesting.specs.Nesting.{most-outputs}
 use Rattle.state_words.specs.declared.defined.Defined.{Defined}
 use Rattle.state_words.specs.declared.defined.Defined.the-variants.{Number, Full}
 use Rattle.state_words.specs.Sections.{conditions, cells, outputs}
-use Rattle.state_words.specs.Values.{output-word, undef-word}
+use Rattle.state_words.specs.Values.{output-word, undef-word, true-word, false-word}
 use Rattle.state_nodes.specs.NodeTables.{earlier-part, shape-size, select-word, OutputDefined, output-defined, outputs-full}
 use Rattle.state_shown.specs.Values.{value}
 use Rattle.state_shown.specs.laws.ValueWords.{equal-values, value-output, value-undef, value-beyond}
@@ -36,7 +36,8 @@ use Rattle.cfg_lookups.specs.laws.paths.MaterializedLaws.{few-parts}
 use Rattle.meaning.specs.Lists.{pick}
 use Rattle.format.specs.Refusals.{too-many}
 use Rattle.state_words.specs.Values.{parts, undef-from}
-use Rattle.state_words.specs.Rows.{cells-at, merge-node, merge-part, merge-scrutinee, outputs-at}
+use Rattle.state_words.specs.Rows.{cells-at, merge-node, merge-part, merge-scrutinee, outputs-at, bool-shape, condition-true, merges-from}
+use Rattle.state_words.specs.Rows.{condition-false}
 
 -- ---- What a step answers, and what it leaves.
 pub record ShowsValue (l l′ : List ℕ) (a : Defined) (b : StepAnswer Value) : Type 0 where
@@ -53,11 +54,11 @@ follow-cons vs v (done us s) = ap (λ l. done l s) (sym (append-assoc vs (v ∷ 
 follow-cons vs v (turned-away n w) = refl
 
 -- ---- [true, false] in words and in values.
-value-true : value 65 ≡ bool true
+value-true : value true-word ≡ bool true
 unfolding value
 value-true = refl
 
-value-false : value 64 ≡ bool false
+value-false : value false-word ≡ bool false
 unfolding value
 value-false = refl
 
@@ -65,22 +66,22 @@ abbrev pub is-test : SelectionKind → List Value → Bool
 is-test kind vs = elim kind [ bool-cond ↦ same-values vs (bool true ∷ bool false ∷ []) | number ↦ false ]
 
 scrutinee-pair : (ws : List ℕ) (vs : List Value) → length vs ≡ 2 → ((k : ℕ) → k < length vs → value (getD ws k 0) ≡ getD vs k (undef 0))
-    → pick (eqb (getD ws 0 0) 65) (eqb (getD ws 1 0) 64) false ≡ same-values vs (bool true ∷ bool false ∷ [])
+    → pick (eqb (getD ws 0 0) true-word) (eqb (getD ws 1 0) false-word) false ≡ same-values vs (bool true ∷ bool false ∷ [])
 scrutinee-pair ws [] n h = absurd (omega arith)
 scrutinee-pair ws (u ∷ []) n h = absurd (omega arith)
 scrutinee-pair ws (u ∷ v ∷ w ∷ vs) n h = absurd (omega arith)
 scrutinee-pair ws (u ∷ v ∷ []) n h =
-    let a : same-value u (bool true) ≡ eqb (getD ws 0 0) 65 = ap (λ z. same-value z (bool true)) (sym (h 0 (omega arith)))
-    ∙ ap (λ z. same-value (value (getD ws 0 0)) z) (sym value-true) ∙ equal-values (getD ws 0 0) 65 (omega arith) in
-    let b : same-value v (bool false) ≡ eqb (getD ws 1 0) 64 = ap (λ z. same-value z (bool false)) (sym (h 1 (omega arith)))
-    ∙ ap (λ z. same-value (value (getD ws 1 0)) z) (sym value-false) ∙ equal-values (getD ws 1 0) 64 (omega arith) in
-    rw (a, b, and-true) (pick-and (eqb (getD ws 0 0) 65) (eqb (getD ws 1 0) 64))
+    let a : same-value u (bool true) ≡ eqb (getD ws 0 0) true-word = ap (λ z. same-value z (bool true)) (sym (h 0 (omega arith)))
+    ∙ ap (λ z. same-value (value (getD ws 0 0)) z) (sym value-true) ∙ equal-values (getD ws 0 0) true-word (omega arith) in
+    let b : same-value v (bool false) ≡ eqb (getD ws 1 0) false-word = ap (λ z. same-value z (bool false)) (sym (h 1 (omega arith)))
+    ∙ ap (λ z. same-value (value (getD ws 1 0)) z) (sym value-false) ∙ equal-values (getD ws 1 0) false-word (omega arith) in
+    rw (a, b, and-true) (pick-and (eqb (getD ws 0 0) true-word) (eqb (getD ws 1 0) false-word))
 
 scrutinee-shown : (shape : ℕ) (ws : List ℕ) (vs : List Value) {kind : SelectionKind} → ShowsShape shape (length vs) kind
     → ((k : ℕ) → k < length vs → value (getD ws k 0) ≡ getD vs k (undef 0)) → is-scrutinee shape ws ≡ is-test kind vs
 unfolding is-scrutinee
-scrutinee-shown shape ws vs (shape-bool e n) h = rw (eq-eqb shape 0 e) (scrutinee-pair ws vs n h)
-scrutinee-shown shape ws vs (shape-number a b n) h = rw (ne-eqb shape 0 (omega arith))
+scrutinee-shown shape ws vs (shape-bool e n) h = rw (eq-eqb shape bool-shape e) (scrutinee-pair ws vs n h)
+scrutinee-shown shape ws vs (shape-number a b n) h = rw (ne-eqb shape bool-shape (omega arith))
 
 -- ---- The values put together.
 module _ (l : List ℕ) (c : ℕ) (ws l′ : List ℕ) {s : NestState} (t : ShowsTables l s) {n : ℕ} {kind : SelectionKind} {v : Value}
@@ -238,7 +239,7 @@ all-made e x no-conds n on = on ∙ rw (append-nil (x .values))
 all-made e x (t & ts) n on = absurd (omega arith)
 
 module _ {l l′ : List ℕ} {c : ℕ} where
-  true-shown : c ≡ 1 → l′ ≡ l → RecordsCond l c l′ (Number 65)
+  true-shown : c ≡ condition-true → l′ ≡ l → RecordsCond l c l′ (Number true-word)
   unfolding materialize-lazy-cond
   true-shown e h true-cond (shows-true f) s t = rw h
       (record { answer = shows-done value-true t; changes = nothing-changes outputs outputs-at l })
@@ -246,7 +247,7 @@ module _ {l l′ : List ℕ} {c : ℕ} where
   true-shown e h undef-cond (shows-undef f) s t = absurd (omega arith)
   true-shown e h (merge n k v ts) (shows-merge a u b d f ps) s t = absurd (omega arith)
 
-  false-shown : c ≡ 2 → l′ ≡ l → RecordsCond l c l′ (Number 64)
+  false-shown : c ≡ condition-false → l′ ≡ l → RecordsCond l c l′ (Number false-word)
   unfolding materialize-lazy-cond
   false-shown e h true-cond (shows-true f) s t = absurd (omega arith)
   false-shown e h false-cond (shows-false f) s t = rw h (record {
@@ -257,7 +258,7 @@ module _ {l l′ : List ℕ} {c : ℕ} where
   false-shown e h undef-cond (shows-undef f) s t = absurd (omega arith)
   false-shown e h (merge n k v ts) (shows-merge a u b d f ps) s t = absurd (omega arith)
 
-  undef-shown : (c ≡ 1 → ⊥) → (c ≡ 2 → ⊥) → c < 4 → {x : ℕ} → x ≡ undef-word 1 → l′ ≡ l → RecordsCond l c l′ (Number x)
+  undef-shown : (c ≡ condition-true → ⊥) → (c ≡ condition-false → ⊥) → c < merges-from → {x : ℕ} → x ≡ undef-word 1 → l′ ≡ l → RecordsCond l c l′ (Number x)
   unfolding materialize-lazy-cond
   undef-shown p q b x h true-cond (shows-true f) s t = absurd (p f)
   undef-shown p q b x h false-cond (shows-false f) s t = absurd (q f)
@@ -265,7 +266,7 @@ module _ {l l′ : List ℕ} {c : ℕ} where
       rw h (record { answer = shows-done (ap value x ∙ value-undef 1 (omega arith)) t; changes = nothing-changes outputs outputs-at l })
   undef-shown p q b x h (merge n k v ts) (shows-merge a u d e f ps) s t = absurd (omega arith)
 
-  merge-shown : 4 ≤ c → {l₁ ws : List ℕ} {a : Defined} → RecordsParts l c (shape-size (shape-at l c)) l₁ ws → Merges l₁ c ws l′ a
+  merge-shown : merges-from ≤ c → {l₁ ws : List ℕ} {a : Defined} → RecordsParts l c (shape-size (shape-at l c)) l₁ ws → Merges l₁ c ws l′ a
       → RecordsCond l c l′ a
   unfolding materialize-lazy-cond
   merge-shown b parts m true-cond (shows-true f) s t = absurd (omega arith)
@@ -295,7 +296,7 @@ module _ {l l′ : List ℕ} {c : ℕ} where
       let r = made t (rw same (cond-by (x .changes) sc)) (x .state) (x .tables) in
       (on ∙ rw (full-of (r .answer) refl), changes-then (x .changes) (r .changes))
 
-  full-shown : 4 ≤ c → {l₁ ws : List ℕ} {j p : ℕ} → j < shape-size (shape-at l c) → RecordsParts l c j l₁ ws → p ≡ part-at l₁ c j
+  full-shown : merges-from ≤ c → {l₁ ws : List ℕ} {j p : ℕ} → j < shape-size (shape-at l c) → RecordsParts l c j l₁ ws → p ≡ part-at l₁ c j
       → RecordsCond l₁ p l′ Full → RecordsCond l c l′ Full
   unfolding materialize-lazy-cond
   full-shown b lt parts pe made true-cond (shows-true f) s t = absurd (omega arith)

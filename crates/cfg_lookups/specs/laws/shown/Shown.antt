@@ -35,7 +35,7 @@ use Rattle.cfg_lookups.specs.declared.look_up.LookUp.{LookUp}
 use Rattle.cfg_lookups.specs.LookUps as words
 use Rattle.cfg_lookups.specs.LookUps.{plain, kind-at, entry-at, changes-again, stays, turns, look-up, Rewrites}
 use Rattle.state_words.specs.Values.{held-from, input-from, instr-from}
-use Rattle.state_words.specs.Rows.{twice-at}
+use Rattle.state_words.specs.Rows.{twice-at, entry-none, entry-replace}
 
 -- ---- The tests of a word, by its range.
 pub input-in : (x : ℕ) → input-from ≤ x → x < held-from → is-input x ≡ true
@@ -101,10 +101,10 @@ module _ (l : List ℕ) (es : List RewriteEntry) (shown : ShowsRewrites (section
       → ShowsEntry (section l rewrites) (input-region x) o
       → changes-again l x ≡ nesting.changes-again (input-index x) o
   unfolding changes-again
-  again-shown x h v (no-entry e) = rw (eq-eqb (kind-at l x) 0 e)
-  again-shown x h v (replaces e f) = rw (ne-eqb (kind-at l x) 0 (omega arith), eq-eqb (kind-at l x) 1 e)
+  again-shown x h v (no-entry e) = rw (eq-eqb (kind-at l x) entry-none e)
+  again-shown x h v (replaces e f) = rw (ne-eqb (kind-at l x) entry-none (omega arith), eq-eqb (kind-at l x) entry-replace e)
   again-shown x h v (renumbers {xs} e f) =
-      rw (ne-eqb (kind-at l x) 0 (omega arith), ne-eqb (kind-at l x) 1 (omega arith))
+      rw (ne-eqb (kind-at l x) entry-none (omega arith), ne-eqb (kind-at l x) entry-replace (omega arith))
       (slot (getD xs (input-index x) (renumber-to (input-index x))) (f (input-index x) (omega arith)))
     where
       slot : (u : InputRewrite) → ShowsInput (input-region x) (entry-at l x) u
@@ -121,7 +121,7 @@ module _ (l : List ℕ) (es : List RewriteEntry) (shown : ShowsRewrites (section
     input-shown : {o : Option RegionInputRewrites} → ShowsEntry (section l rewrites) (input-region x) o
         → ShowsFound (turns (suc n) l x) (look-up-input go (input-region x) (input-index x) o)
     unfolding turns words.renumbers
-    input-shown (no-entry e) = rw (an-input, eq-eqb (kind-at l x) 0 e) (record { value = is; twice = refl })
+    input-shown (no-entry e) = rw (an-input, eq-eqb (kind-at l x) entry-none e) (record { value = is; twice = refl })
     input-shown (replaces {vs} e f) =
         rw (an-input, e, ← f (input-index x) (omega arith)) (before (entry-at l x))
     input-shown (renumbers {xs} e f) =

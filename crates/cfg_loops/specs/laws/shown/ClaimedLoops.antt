@@ -58,10 +58,10 @@ use Rattle.cfg_loops.specs.laws.shown.ExitsShown.{ExitsCounted, exits-sh
 use Rattle.cfg_loops.specs.laws.shown.LoopsShown.{InputsEntered, inputs-entered, entered-state, LoopWithin, ShowsLoopMade, made-done}
 use Rattle.cfg_loops.specs.laws.shown.LoopsShown.{made-refused, loop-step, loop-made-shown, defines-changes, set-beside}
 use Rattle.format.specs.Refusals.{too-many}
-use Rattle.state_words.specs.Rows.{bundle-input, cells-at, kind-claimed, largest, most-cells, region-kind}
+use Rattle.state_words.specs.Rows.{bundle-input, cells-at, kind-claimed, largest, most-cells, region-kind, slot-size, return-word}
 
 -- ---- The back edge leaves region r's set: nothing of another region changes.
-pub removed-concerns : (g : Graph) (w : List ℕ) (r i p : ℕ) → Slots (length (g .regions)) w → HasSlot (length (g .regions)) r → i < 33
+pub removed-concerns : (g : Graph) (w : List ℕ) (r i p : ℕ) → Slots (length (g .regions)) w → HasSlot (length (g .regions)) r → i < slot-size
     → p ≡ word w set-starts r + i → Concerns g r w (swap-removed w r p)
 unfolding swap-removed
 removed-concerns g w r i p slots a b e =
@@ -95,9 +95,9 @@ other-target {i} {j} few x h b =
     sym (targets-tell few (x .each i h .target) (x .each j (omega arith) .target)) ∙ ne-eqb _ _ (x .apart j i b h)
 
 -- A word of Return is in no exit list.
-no-return-exit : (n : ℕ) (xs : List ℕ) → n ≤ 32 → All (λ t. t < n) xs → is-in 65535 xs ≡ false
+no-return-exit : (n : ℕ) (xs : List ℕ) → n ≤ 32 → All (λ t. t < n) xs → is-in return-word xs ≡ false
 no-return-exit n [] h a = refl
-no-return-exit n (t ∷ xs) h a = let b = a .0 in rw (ne-eqb 65535 t (omega arith)) (no-return-exit n xs h (a .1))
+no-return-exit n (t ∷ xs) h a = let b = a .0 in rw (ne-eqb return-word t (omega arith)) (no-return-exit n xs h (a .1))
 
 -- ---- The condition of the back edge in its set, and the values that it passes.
 condition-shown : {g : Graph} {w : List ℕ} {p n : ℕ} (d : DeferredEdgeBundleSet) {e : DeferredEdgeBundle} → n ≡ length d

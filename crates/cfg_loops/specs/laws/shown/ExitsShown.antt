@@ -27,7 +27,7 @@ use Rattle.state_shown.specs.laws.RegionSteps.{bundle-word-concerns, bundle-con
 use Rattle.state_shown.specs.laws.RegionSteps.{Concerns, concerns-then}
 use Rattle.cfg_loops.specs.Exits.{exit-added, exits-from, exits-added}
 use Rattle.state_words.specs.Rows.{bundle-count, bundle-count-at, bundle-target, bundle-target-at, bundle-word, bundle-word-at, cases-at}
-use Rattle.state_words.specs.Rows.{largest, most-bundles, no-bundle-word, return-word}
+use Rattle.state_words.specs.Rows.{largest, most-bundles, no-bundle-word, return-word, bundle-count-field}
 
 counted : (n : ℕ) → n < largest → edges-word (n + 1) ≡ suc n
 counted n h = edges-fit (n + 1) (omega arith) ∙ add-one n
@@ -44,7 +44,7 @@ only-exit g r p l = go (is-in (bundle-target l p) (exit-targets g r))
     go false = bundle-same l p
 
 -- ---- One bundle.
-module _ (g : Graph) (r : ℕ) (not-return : is-in 65535 (exit-targets g r) ≡ false) where
+module _ (g : Graph) (r : ℕ) (not-return : is-in return-word (exit-targets g r) ≡ false) where
   abbrev counts-exit : DeferredEdgeBundle → DeferredEdgeBundle
   counts-exit = add-exit-edge (exit-targets g r)
 
@@ -63,7 +63,7 @@ module _ (g : Graph) (r : ℕ) (not-return : is-in 65535 (exit-targets g r) ≡ 
     abbrev l′ : List ℕ
     l′ = exit-added g r p l
 
-    other-word : (i : ℕ) → (i ≡ 1 → ⊥) → bundle-word l′ p i ≡ bundle-word l p i
+    other-word : (i : ℕ) → (i ≡ bundle-count-field → ⊥) → bundle-word l′ p i ≡ bundle-word l p i
     unfolding exit-added
     other-word i d = go (is-in (bundle-target l p) (exit-targets g r))
       where
@@ -125,7 +125,7 @@ module _ (g : Graph) (r : ℕ) (not-return : is-in 65535 (exit-targets g r) ≡ 
           go to-return is = to-return-so is
 
 -- ---- The whole set of loop r, bundle by bundle.
-module _ (g : Graph) (r : ℕ) (not-return : is-in 65535 (exit-targets g r) ≡ false) (l₀ : List ℕ) (start n : ℕ) (d : DeferredEdgeBundleSet)
+module _ (g : Graph) (r : ℕ) (not-return : is-in return-word (exit-targets g r) ≡ false) (l₀ : List ℕ) (start n : ℕ) (d : DeferredEdgeBundleSet)
     (fits : used ≤ length l₀) (slots : Slots (length (g .regions)) l₀) (below : HasSlot (length (g .regions)) r)
     (own : start ≡ word l₀ set-starts r) (shown : ShowsSet g l₀ start n d)
     (low : (i : ℕ) → i < n → getD d i no-bundle .accumulated-count < largest) where
@@ -197,7 +197,7 @@ pub record ExitsCounted (g : Graph) (r : ℕ) (l l′ : List ℕ) (d : DeferredE
   pub changes : ChangesOnly bundles cases-at l l′
   pub set : ShowsOwnSet g l′ r (map (add-exit-edge (exit-targets g r)) d)
 
-pub exits-shown : (g : Graph) (r : ℕ) (l : List ℕ) (d : DeferredEdgeBundleSet) → is-in 65535 (exit-targets g r) ≡ false → used ≤ length l
+pub exits-shown : (g : Graph) (r : ℕ) (l : List ℕ) (d : DeferredEdgeBundleSet) → is-in return-word (exit-targets g r) ≡ false → used ≤ length l
     → Slots (length (g .regions)) l → HasSlot (length (g .regions)) r → ShowsOwnSet g l r d
     → ((i : ℕ) → i < length d → getD d i no-bundle .accumulated-count < largest)
     → ExitsCounted g r l (exits-added g r l) d

@@ -16,8 +16,8 @@ abbrev μ-loop : tie.MeasureT-loop
 target-requires : tie.Need-target-requires Inv-loop μ-loop
 target-requires c κs = search needs
 
-input-count-requires : tie.Need-input-count-requires Inv-loop μ-loop
-input-count-requires c κs = search needs
+target-input-count-requires : tie.Need-target-input-count-requires Inv-loop μ-loop
+target-input-count-requires c κs = search needs
 
 loop-holds : tie.Need-loop-holds Inv-loop μ-loop
 loop-holds c = turn-first _ _ _
@@ -37,7 +37,7 @@ loop-again c = rw (c .rewrite-input .ensures)
 
 returns : tie.Need-returns Inv-loop μ-loop
 returns c = bundle-path _ _ _ _ _ _ (c .loop-test .left) (c .before .before .before .target .ensures)
-    (c .before .before .input-count .ensures) (c .before .loop .inv)
+    (c .before .before .target-input-count .ensures) (c .before .loop .inv)
 
 pub rewrite-bundle-spec : {M : Type 1} → statement M
 rewrite-bundle-spec =
@@ -46,7 +46,7 @@ rewrite-bundle-spec =
     Inv-loop
     μ-loop
     target-requires
-    input-count-requires
+    target-input-count-requires
     loop-holds
     rewrite-input-requires
     add-k

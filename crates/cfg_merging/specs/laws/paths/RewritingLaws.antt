@@ -92,11 +92,11 @@ module _ (l : List ℕ) (j kind : ℕ) (of-kind : kind ≡ case-kind l j) where
   pub given-path : kind ≡ case-claimed → {l₁ : List ℕ} → OfRecord l (λ g. l₁ ≡ rewrite-inputs g l j)
       → OfRecord l (λ g. l₁ ≡ rewrite-given g l j)
   unfolding rewrite-given
-  given-path e inputs g st = inputs g st ∙ rw (← of-kind, eq-eqb kind 2 e)
+  given-path e inputs g st = inputs g st ∙ rw (← of-kind, eq-eqb kind case-claimed e)
 
   pub none-given : (kind ≡ case-claimed → ⊥) → OfRecord l (λ g. l ≡ rewrite-given g l j)
   unfolding rewrite-given
-  none-given d g st = rw (← of-kind, ne-eqb kind 2 d)
+  none-given d g st = rw (← of-kind, ne-eqb kind case-claimed d)
 
 pub case-path : (l l₁ l₂ : List ℕ) (j start n : ℕ) → OfRecord l (λ g. l₁ ≡ rewrite-given g l j) → start ≡ case-set-start l₁ j
     → n ≡ case-set-length l₁ j → OfRecord l₁ (λ g. l₂ ≡ rewrite-set g l₁ start n) → OfRecord l (λ g. l₂ ≡ rewrite-case g l j)

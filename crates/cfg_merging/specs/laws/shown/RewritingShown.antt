@@ -45,14 +45,14 @@ use Rattle.state_shown.specs.laws.RegionSteps.{named-by, slots-stay}
 use Rattle.state_words.specs.Rows.{bundle-input-at, bundle-row-at, bundle-target, bundle-word, bundle-word-at, case-claimed, case-input}
 use Rattle.state_words.specs.Rows.{case-input-at, case-kind, case-origin, case-row-at, case-row-size, case-set-length, case-set-start}
 use Rattle.state_words.specs.Rows.{case-word, case-word-at, cases-at, cells-at, kind-ready, level-at, merges-at, most-bundles, region-kind}
-use Rattle.state_words.specs.Rows.{returned-at, types-at}
+use Rattle.state_words.specs.Rows.{returned-at, types-at, slot-size, twice-at, return-word, spare-slot}
 
 -- ---- What rewriting leaves: all but the note, the cases' inputs and the bundles' inputs.
 pub record Stays (w w′ : List ℕ) : Type 0 where
   pub words : length w′ ≡ length w
   pub others : (j : Section) → (number j ≡ number sections.cases → ⊥) → (number j ≡ number sections.bundles → ⊥)
       → (number j ≡ number sections.head → ⊥) → section w′ j ≡ section w j
-  pub totals : (q : ℕ) → (q ≡ 6 → ⊥) → word w′ head q ≡ word w head q
+  pub totals : (q : ℕ) → (q ≡ twice-at → ⊥) → word w′ head q ≡ word w head q
   pub case-fields : (j i : ℕ) → i < 6 → case-word w′ j i ≡ case-word w j i
   pub bundle-fields : (p i : ℕ) → i < 3 → bundle-word w′ p i ≡ bundle-word w p i
 
@@ -109,7 +109,7 @@ module _ (g : Graph) (valid : Valid g) where
   unfolding input-count
   count-by l t back (shows-region {r} e h) =
       let z = valid .count in
-      rw (e, ne-eqb r 65535 (omega arith))
+      rw (e, ne-eqb r return-word (omega arith))
   count-by l t back (shows-return e) = rw e (back .size)
 
   pub record BundleShown (s : NestState) (l l′ : List ℕ) (p : ℕ) (e : DeferredEdgeBundle) : Type 0 where
@@ -197,7 +197,7 @@ module _ (g : Graph) (valid : Valid g) where
 
   bundles-rewritten : (start : ℕ) (d : DeferredEdgeBundleSet) (s : NestState) → ((r : ℕ) → ChainsEnd (s .region-input-rewrites) r)
       → (l : List ℕ) → ShowsTables l s → NamedRewrites l → ShowsReturned g l → (i : ℕ) → start + i + length d ≤ most-bundles
-      → i + length d ≤ 33
+      → i + length d ≤ slot-size
       → ((k : ℕ) → k < length d → ShowsBundle g l (start + (i + k)) (getD d k no-bundle))
       → SetShown s l (turned (set-step start) l (length d) i) start i d
   unfolding turned
@@ -557,7 +557,7 @@ from-zero : (k : ℕ) → 0 + k ≡ k
 from-zero k = omega arith
 
 -- Two slots that are not the same have no bundle in common.
-slots-apart : {n : ℕ} {w : List ℕ} → Slots n w → (a b : ℕ) → HasSlot n a → HasSlot n b → (a ≡ b → ⊥) → (i j : ℕ) → i < 33 → j < 33
+slots-apart : {n : ℕ} {w : List ℕ} → Slots n w → (a b : ℕ) → HasSlot n a → HasSlot n b → (a ≡ b → ⊥) → (i j : ℕ) → i < slot-size → j < slot-size
     → word w set-starts a + i ≡ word w set-starts b + j → ⊥
 slots-apart sl a b x y d i j h k e =
     let p = sl .starts a x in
@@ -569,7 +569,7 @@ module _ (g : Graph) (valid : Valid g) (w : List ℕ) (r : ℕ) (s : NestState) 
   -- A bundle of case j is none of slot q's, where q is neither the parent nor the case's origin.
   pub case-apart : (q : ℕ) → HasSlot (length (g .regions)) q → HasSlot (length (g .regions)) r → (q ≡ r → ⊥) → (j : ℕ) → j < length cs
       → (case-kind w j ≡ case-claimed → q ≡ case-origin w j → ⊥)
-      → (i p : ℕ) → i < 33 → p < case-set-length w j → word w set-starts q + i ≡ case-set-start w j + p → ⊥
+      → (i p : ℕ) → i < slot-size → p < case-set-length w j → word w set-starts q + i ≡ case-set-start w j + p → ⊥
   case-apart q a b d j h f i p y z e = go (x .each j h)
     where
       go : {c : MaybeClaimedRegion} → ShowsCase g w r j c → ⊥
@@ -649,7 +649,7 @@ module _ (g : Graph) (valid : Valid g) (w : List ℕ) (r : ℕ) (s : NestState) 
               st .case-fields i 4 (omega arith),
               st .case-fields j 4 (omega arith),
             ) (x .apart i j p q a (rw same at b));
-            not-spare = λ j p q a. rw (st .case-fields j 5 (omega arith), st .case-fields j 4 (omega arith), starts 32)
+            not-spare = λ j p q a. rw (st .case-fields j 5 (omega arith), st .case-fields j 4 (omega arith), starts spare-slot)
                 (x .not-spare j p q (rw same at a));
           };
           state = record {

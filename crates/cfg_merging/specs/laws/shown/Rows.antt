@@ -28,7 +28,7 @@ use Rattle.cfg_lookups.specs.laws.shown.Shown.{rewritten-value, rewritten-table
 use Rattle.cfg_merging.specs.Turns.{turned}
 use Rattle.cfg_merging.specs.Rewriting.{noted}
 use Rattle.state_words.specs.Values.{names-nothing}
-use Rattle.state_words.specs.Rows.{twice-at}
+use Rattle.state_words.specs.Rows.{twice-at, entry-none}
 
 -- ---- A look-up of a word that names a value gives one that does.
 module _ (l : List ℕ) (named : NamedRewrites l) where
@@ -36,17 +36,17 @@ module _ (l : List ℕ) (named : NamedRewrites l) where
     abbrev by-entry : LookUp
     by-entry = pick (renumbers (kind-at l x) (entry-at l x)) (plain (entry-at l x)) (next (entry-at l x))
 
-    entry-below : eqb (kind-at l x) 0 ≡ false → by-entry .value < names-nothing
+    entry-below : eqb (kind-at l x) entry-none ≡ false → by-entry .value < names-nothing
     entry-below e = go (renumbers (kind-at l x) (entry-at l x))
       where
         there : entry-at l x < names-nothing
-        there = named .below (input-region x) (input-index x) (omega arith) (omega arith) (eqb-false (kind-at l x) 0 e)
+        there = named .below (input-region x) (input-index x) (omega arith) (omega arith) (eqb-false (kind-at l x) entry-none e)
 
         go : (b : Bool) → pick b (plain (entry-at l x)) (next (entry-at l x)) .value < names-nothing
         go true = there
         go false = before (entry-at l x) there
 
-    turn-below : (a b : Bool) → eqb (kind-at l x) 0 ≡ b → pick a (pick b (plain x) by-entry) (stays l x) .value < names-nothing
+    turn-below : (a b : Bool) → eqb (kind-at l x) entry-none ≡ b → pick a (pick b (plain x) by-entry) (stays l x) .value < names-nothing
     unfolding stays
     turn-below true true e = h
     turn-below true false e = entry-below e
@@ -56,7 +56,7 @@ module _ (l : List ℕ) (named : NamedRewrites l) where
   unfolding turns
   turns-below zero x h = h
   turns-below (suc n) x h =
-      turn-below x h (λ y. turns n l y) (λ y. turns-below n y) (is-input x) (eqb (kind-at l x) 0) refl
+      turn-below x h (λ y. turns n l y) (λ y. turns-below n y) (is-input x) (eqb (kind-at l x) entry-none) refl
 
   pub look-up-below : (x : ℕ) → x < names-nothing → look-up l x .value < names-nothing
   look-up-below x h = turns-below 129 x h

@@ -23,7 +23,7 @@ use Rattle.state_shown.specs.Kept.{PreservesMade, KeptRegion}
 use Rattle.state_shown.specs.laws.RegionsKept.{set-stays, region-stays}
 use Rattle.state_shown.specs.laws.Stores.{word-apart}
 use Rattle.state_shown.specs.laws.RegionSteps.{named-by, slots-stay}
-use Rattle.state_words.specs.Rows.{bundle-row-at, bundle-word-at, case-input, case-input-at, case-set-length-at, case-set-start}
+use Rattle.state_words.specs.Rows.{bundle-row-at, bundle-word-at, case-input, case-input-at, case-set-length-at, case-set-start, slot-size}
 use Rattle.state_words.specs.Rows.{case-set-start-at, case-word, case-word-at, level-at, slot-words, spare-slot}
 
 -- ---- A case stays shown where its words and the slots do.
@@ -46,7 +46,7 @@ pub record SpareOnly (o : ℕ) (w w′ : List ℕ) : Type 0 where
   pub words : length w′ ≡ length w
   pub others : (k : Section) → (number k ≡ number sections.set-lengths → ⊥) → (number k ≡ number sections.bundles → ⊥)
       → section w′ k ≡ section w k
-  pub lengths : (q : ℕ) → (q ≡ 32 → ⊥) → word w′ set-lengths q ≡ word w set-lengths q
+  pub lengths : (q : ℕ) → (q ≡ spare-slot → ⊥) → word w′ set-lengths q ≡ word w set-lengths q
   pub before : (x : ℕ) → x < bundle-row-at o → word w′ bundles x ≡ word w bundles x
   pub behind : (x : ℕ) → bundle-row-at o + slot-words ≤ x → word w′ bundles x ≡ word w bundles x
 
@@ -67,7 +67,7 @@ module _ (o : ℕ) (w : List ℕ) where
   pub spare-length : (x : ℕ) → SpareOnly o w (stored w set-lengths spare-slot x)
   spare-length x =
       record {
-        words = stored-length (start set-lengths) (size set-lengths) w 32 x;
+        words = stored-length (start set-lengths) (size set-lengths) w spare-slot x;
         others = λ k c d. section-other w set-lengths spare-slot x k c;
         lengths = λ q d. word-apart w set-lengths spare-slot x set-lengths q d;
         before = λ q h. ap (λ z. getD z q 0) (section-other w set-lengths spare-slot x bundles (omega arith));
@@ -124,11 +124,11 @@ module _ {o : ℕ} {w w′ : List ℕ} (y : SpareOnly o w w′) where
         };
       }
 
-  pub spare-outside : (q : ℕ) → ((i : ℕ) → i < 33 → q ≡ o + i → ⊥) → SameBundle w w′ q
+  pub spare-outside : (q : ℕ) → ((i : ℕ) → i < slot-size → q ≡ o + i → ⊥) → SameBundle w w′ q
   spare-outside q d =
       elim (decLt q o) [
         | yes h ↦ record { words = λ i b. y .before (bundle-word-at q i) (omega arith) }
-        | no h ↦ elim (decLt q (o + 33)) [
+        | no h ↦ elim (decLt q (o + slot-size)) [
           | yes b ↦ absurd (d (q - o) (omega arith) (omega arith))
           | no b ↦ record { words = λ i c. y .behind (bundle-word-at q i) (omega arith) }
         ]
@@ -138,9 +138,9 @@ module _ {o : ℕ} {w w′ : List ℕ} (y : SpareOnly o w w′) where
     pub spare-keeps : length (g .regions) ≤ 32 → (q : ℕ) → q < length (g .regions) → KeptRegion w w′ q
     spare-keeps few q h =
         let a = slots .starts q (omega arith) in
-        let b = slots .starts 32 (omega arith) in
-        let apart : slots .slot-number q ≡ slots .slot-number 32 → ⊥ =
-        λ e. (let f = slots .own q 32 (omega arith) (omega arith) e in omega arith) in
+        let b = slots .starts spare-slot (omega arith) in
+        let apart : slots .slot-number q ≡ slots .slot-number spare-slot → ⊥ =
+        λ e. (let f = slots .own q spare-slot (omega arith) (omega arith) e in omega arith) in
         record {
           set-start = spare-there set-starts (omega arith) (omega arith) q;
           set-length = y .lengths q (omega arith);
@@ -182,6 +182,6 @@ module _ {o : ℕ} {w w′ : List ℕ} (y : SpareOnly o w w′) where
           apart = λ i j p q a b. rw (f (case-set-length-at i), f (case-set-length-at j), f (case-set-start-at i), f (case-set-start-at j))
               (x .apart i j p q a b);
           not-spare = λ j p q a. rw
-              (f (case-set-length-at j), f (case-set-start-at j), spare-there set-starts (omega arith) (omega arith) 32)
+              (f (case-set-length-at j), f (case-set-start-at j), spare-there set-starts (omega arith) (omega arith) spare-slot)
               (x .not-spare j p q a);
         }

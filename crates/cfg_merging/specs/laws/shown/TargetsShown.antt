@@ -36,8 +36,8 @@ use Rattle.meaning.specs.facts.Parts.{run-before, run-in}
 use Rattle.nesting.specs.steps.TargetsAndCases.{same-target-is, same-target-self, summary-with}
 use Rattle.state_words.specs.Rows.{bundle-condition, bundle-condition-at, bundle-count, bundle-count-at, bundle-row-at, bundle-target}
 use Rattle.state_words.specs.Rows.{bundle-target-at, bundle-word, bundle-word-at, case-set-length, case-set-length-at, case-set-start}
-use Rattle.state_words.specs.Rows.{case-set-start-at, largest, most-bundles, own-edges-from, spare-slot}
-use Rattle.state_words.specs.Rows.{condition-true}
+use Rattle.state_words.specs.Rows.{case-set-start-at, largest, most-bundles, own-edges-from, spare-slot, slot-count, slot-size, return-word}
+use Rattle.state_words.specs.Rows.{condition-true, no-bundle-word}
 
 -- ---- The definition's step, by the first row to a bundle's target.
 abbrev pub no-summary : DeferredTargetSummary
@@ -109,7 +109,7 @@ pub record ShowsRow (g : Graph) (l : List ℕ) (p : ℕ) (t : DeferredTargetSumm
 
 pub record ShowsRows (g : Graph) (l : List ℕ) (o : ℕ) (ts : List DeferredTargetSummary) : Type 0 where
   pub size : word l set-lengths spare-slot ≡ length ts
-  pub few : length ts ≤ 33
+  pub few : length ts ≤ slot-size
   pub each : (i : ℕ) → i < length ts → ShowsRow g l (o + i) (getD ts i no-summary)
   pub apart : (i j : ℕ) → i < j → j < length ts → bundle-target l (o + i) ≡ bundle-target l (o + j) → ⊥
 
@@ -123,30 +123,30 @@ no-clip a b h =
 
 -- The number of a target, below 33.
 unfoldable target-number : ℕ → ℕ
-target-number a = pick (eqb a 65535) 32 a
+target-number a = pick (eqb a return-word) 32 a
 
 module _ (g : Graph) (valid : Valid g) where
-  number-below : {a : ℕ} {x : DeferredTarget} → ShowsTarget g a x → target-number a < 33
+  number-below : {a : ℕ} {x : DeferredTarget} → ShowsTarget g a x → target-number a < slot-count
   unfolding target-number
-  number-below {a} (shows-region e h) = let n = valid .count in rw (ne-eqb a 65535 (omega arith)) (omega arith)
-  number-below {a} (shows-return e) = rw (eq-eqb a 65535 e) (omega arith)
+  number-below {a} (shows-region e h) = let n = valid .count in rw (ne-eqb a return-word (omega arith)) (omega arith)
+  number-below {a} (shows-return e) = rw (eq-eqb a return-word e) (omega arith)
 
   number-own : {a b : ℕ} {x y : DeferredTarget} → ShowsTarget g a x → ShowsTarget g b y → target-number a ≡ target-number b → a ≡ b
   unfolding target-number
   number-own {a} {b} (shows-region e h) (shows-region f k) z =
-      let n = valid .count in rw (ne-eqb a 65535 (omega arith), ne-eqb b 65535 (omega arith)) at z
+      let n = valid .count in rw (ne-eqb a return-word (omega arith), ne-eqb b return-word (omega arith)) at z
   number-own {a} {b} (shows-region e h) (shows-return f) z =
       let n = valid .count in
-      let y : a ≡ 32 = rw (ne-eqb a 65535 (omega arith), eq-eqb b 65535 f) at z in absurd (omega arith)
+      let y : a ≡ 32 = rw (ne-eqb a return-word (omega arith), eq-eqb b return-word f) at z in absurd (omega arith)
   number-own {a} {b} (shows-return e) (shows-region f k) z =
       let n = valid .count in
-      let y : 32 ≡ b = rw (eq-eqb a 65535 e, ne-eqb b 65535 (omega arith)) at z in absurd (omega arith)
+      let y : 32 ≡ b = rw (eq-eqb a return-word e, ne-eqb b return-word (omega arith)) at z in absurd (omega arith)
   number-own (shows-return e) (shows-return f) z = omega arith
 
   -- Rows to different targets, and one target more: there was room.
   rows-few : (l : List ℕ) (o t : ℕ) {x : DeferredTarget} {ts : List DeferredTargetSummary} → ShowsTarget g t x → ShowsRows g l o ts
-      → ((k : ℕ) → k < length ts → bundle-target l (o + k) ≡ t → ⊥) → length ts < 33
-  rows-few l o t {ts} shown rows new = pigeonhole 33 (suc (length ts)) number below apart
+      → ((k : ℕ) → k < length ts → bundle-target l (o + k) ≡ t → ⊥) → length ts < slot-size
+  rows-few l o t {ts} shown rows new = pigeonhole slot-size (suc (length ts)) number below apart
     where
       number : ℕ → ℕ
       number k = pick (ltb k (length ts)) (target-number (bundle-target l (o + k))) (target-number t)
@@ -157,7 +157,7 @@ module _ (g : Graph) (valid : Valid g) where
       last : (k : ℕ) → length ts ≤ k → number k ≡ target-number t
       last k h = rw (le-ltb k (length ts) h)
 
-      below : (k : ℕ) → k < suc (length ts) → number k < 33
+      below : (k : ℕ) → k < suc (length ts) → number k < slot-size
       below k h = elim (decLt k (length ts)) [
         | yes c ↦ rw (old k c) (number-below (rows .each k c .target))
         | no c ↦ rw (last k (omega arith)) (number-below shown)
@@ -175,7 +175,7 @@ module _ (g : Graph) (valid : Valid g) where
     pub spare : SpareOnly o l l′
     pub rows : ShowsRows g l′ o ts
 
-  module _ (o : ℕ) (below : o + 33 ≤ own-edges-from) (l : List ℕ) (full : used ≤ length l) (at : word l set-starts spare-slot ≡ o) (p : ℕ)
+  module _ (o : ℕ) (below : o + slot-size ≤ own-edges-from) (l : List ℕ) (full : used ≤ length l) (at : word l set-starts spare-slot ≡ o) (p : ℕ)
       {e : DeferredEdgeBundle} (x : ShowsBundle g l p e) (ts : List DeferredTargetSummary) (rows : ShowsRows g l o ts) where
     abbrev t : ℕ
     t = bundle-target l p
@@ -192,7 +192,7 @@ module _ (g : Graph) (valid : Valid g) where
           → summarize-bundle l p ≡ counted
       unfolding summarize-bundle
       as-counted b f =
-          rw (at, rows .size, f, ne-eqb (o + i) 65535 (omega arith), rows .each i h .count, x .count, edges-fit _ b)
+          rw (at, rows .size, f, ne-eqb (o + i) no-bundle-word (omega arith), rows .each i h .count, x .count, edges-fit _ b)
 
       row-counted : (k : ℕ) → k < length ts → ShowsRow g counted (o + k)
           (getD (set ts i (summary-with e (getD ts i no-summary))) k no-summary)
@@ -228,7 +228,7 @@ module _ (g : Graph) (valid : Valid g) where
           record {
             spare = spare-word o l (bundle-count-at (o + i)) sum (omega arith) (omega arith);
             rows = record {
-              size = ap (λ z. getD z 32 0) (section-other l bundles (bundle-count-at (o + i)) sum set-lengths (omega arith))
+              size = ap (λ z. getD z spare-slot 0) (section-other l bundles (bundle-count-at (o + i)) sum set-lengths (omega arith))
                   ∙ rows .size ∙ sym same;
               few = rw same few;
               each = λ k b. row-counted k (rw same at b);
@@ -246,7 +246,7 @@ module _ (g : Graph) (valid : Valid g) where
       new-word k h = eqb-false (bundle-target l (o + k)) t
           (targets-tell (let few = valid .count .1 in omega arith) (x .target) (rows .each k h .target) ∙ new k h)
 
-      there-was-room : n < 33
+      there-was-room : n < slot-size
       there-was-room = rows-few l o t (x .target) rows new-word
 
       abbrev with-row : List ℕ
@@ -255,7 +255,7 @@ module _ (g : Graph) (valid : Valid g) where
       abbrev added : List ℕ
       added = stored with-row set-lengths spare-slot (n + 1)
 
-      as-added : find-by l o t n 0 ≡ 65535 → summarize-bundle l p ≡ added
+      as-added : find-by l o t n 0 ≡ no-bundle-word → summarize-bundle l p ≡ added
       unfolding summarize-bundle
       as-added f =
           let h = there-was-room in
@@ -339,10 +339,10 @@ module _ (g : Graph) (valid : Valid g) where
   abbrev set-step : ℕ → List ℕ → ℕ → List ℕ
   set-step start m i = summarize-bundle m (bundle-at start i)
 
-  bundles-summarized : (o : ℕ) → o + 33 ≤ own-edges-from → (start : ℕ) (d : DeferredEdgeBundleSet) (l : List ℕ) → used ≤ length l
-      → word l set-starts spare-slot ≡ o → (i : ℕ) → start + i + length d ≤ most-bundles → i + length d ≤ 33
+  bundles-summarized : (o : ℕ) → o + slot-size ≤ own-edges-from → (start : ℕ) (d : DeferredEdgeBundleSet) (l : List ℕ) → used ≤ length l
+      → word l set-starts spare-slot ≡ o → (i : ℕ) → start + i + length d ≤ most-bundles → i + length d ≤ slot-size
       → ((k : ℕ) → k < length d → ShowsBundle g l (start + (i + k)) (getD d k no-bundle))
-      → ((k q : ℕ) → k < length d → q < 33 → start + (i + k) ≡ o + q → ⊥)
+      → ((k q : ℕ) → k < length d → q < slot-size → start + (i + k) ≡ o + q → ⊥)
       → (ts : List DeferredTargetSummary) → ShowsRows g l o ts
       → ((x : DeferredTarget) → edges-of-rows x ts + edges-of-set x d ≤ largest)
       → RowsAfter o l (turned (set-step start) l (length d) i) (nesting.summarize-set d ts)
@@ -358,7 +358,7 @@ module _ (g : Graph) (valid : Valid g) where
       let l₁ = summarize-bundle l (start + i) in
       let next : (k : ℕ) → suc i + k ≡ i + suc k = λ k. omega arith in
       let ih = bundles-summarized o below start d l₁ (rw (one .spare .words) full)
-      (spare-there (one .spare) set-starts (omega arith) (omega arith) 32 ∙ at) (suc i) (omega arith) (omega arith)
+      (spare-there (one .spare) set-starts (omega arith) (omega arith) spare-slot ∙ at) (suc i) (omega arith) (omega arith)
       (λ k h. rw (next k) (bundle-stays (spare-preserves (one .spare) g)
       (spare-outside (one .spare) (start + (i + suc k)) (λ q b. apart (suc k) q (omega arith) b)) (shown (suc k) (omega arith))))
       (λ k q h. rw (next k) (apart (suc k) q (omega arith)))
@@ -368,8 +368,8 @@ module _ (g : Graph) (valid : Valid g) where
       (sym (bundle-in start i (omega arith) (omega arith)))
       (record { spare = spare-then (one .spare) (ih .spare); rows = ih .rows })
 
-  set-summarized : (o : ℕ) → o + 33 ≤ own-edges-from → (l : List ℕ) → used ≤ length l → word l set-starts spare-slot ≡ o → (start n : ℕ)
-      {d : DeferredEdgeBundleSet} → ShowsSet g l start n d → ((k q : ℕ) → k < n → q < 33 → start + k ≡ o + q → ⊥)
+  set-summarized : (o : ℕ) → o + slot-size ≤ own-edges-from → (l : List ℕ) → used ≤ length l → word l set-starts spare-slot ≡ o → (start n : ℕ)
+      {d : DeferredEdgeBundleSet} → ShowsSet g l start n d → ((k q : ℕ) → k < n → q < slot-size → start + k ≡ o + q → ⊥)
       → (ts : List DeferredTargetSummary) → ShowsRows g l o ts
       → ((x : DeferredTarget) → edges-of-rows x ts + edges-of-set x d ≤ largest)
       → RowsAfter o l (summarize-set l start n) (nesting.summarize-set d ts)
@@ -383,11 +383,11 @@ module _ (g : Graph) (valid : Valid g) where
       (λ k h. rw (from-zero k) (x .each k (omega arith))) (λ k q h. rw (from-zero k) (apart k q (omega arith))) ts rows bound)
 
   -- ---- All cases, from case j on.
-  cases-summarized : (o : ℕ) → o + 33 ≤ own-edges-from → (cs : List MaybeClaimedRegion) (l : List ℕ) → used ≤ length l
+  cases-summarized : (o : ℕ) → o + slot-size ≤ own-edges-from → (cs : List MaybeClaimedRegion) (l : List ℕ) → used ≤ length l
       → word l set-starts spare-slot ≡ o → (j : ℕ)
       → ((k : ℕ) → k < length cs
       → ShowsSet g l (case-set-start l (j + k)) (case-set-length l (j + k)) (deferred-of (getD cs k no-case)))
-      → ((k p q : ℕ) → k < length cs → p < case-set-length l (j + k) → q < 33 → case-set-start l (j + k) + p ≡ o + q → ⊥)
+      → ((k p q : ℕ) → k < length cs → p < case-set-length l (j + k) → q < slot-size → case-set-start l (j + k) + p ≡ o + q → ⊥)
       → (ts : List DeferredTargetSummary) → ShowsRows g l o ts
       → ((x : DeferredTarget) → edges-of-rows x ts + edges-of-cases x cs ≤ largest)
       → RowsAfter o l (turned summarize-case l (length cs) j) (nesting.deferred-targets cs ts)
@@ -401,7 +401,7 @@ module _ (g : Graph) (valid : Valid g) where
       let l₁ = summarize-case l j in
       let sp = one .spare in
       let same : (i : ℕ) → word l₁ cases i ≡ word l cases i = spare-there sp cases (omega arith) (omega arith) in
-      let ih = cases-summarized o below cs l₁ (rw (sp .words) full) (spare-there sp set-starts (omega arith) (omega arith) 32 ∙ at) (suc j)
+      let ih = cases-summarized o below cs l₁ (rw (sp .words) full) (spare-there sp set-starts (omega arith) (omega arith) spare-slot ∙ at) (suc j)
       (λ k h. rw (next k, same (case-set-start-at (j + suc k)), same (case-set-length-at (j + suc k))) (set-stays (spare-preserves sp g)
       (λ i b. spare-outside sp (case-set-start l (j + suc k) + i) (λ q c. apart (suc k) i q (omega arith) b c))
       (sets (suc k) (omega arith))))
@@ -429,12 +429,12 @@ deferred-targets-shown g valid w r s cs shown x bound =
     let m = stored w set-lengths spare-slot 0 in
     let full = shown .tables .size in
     let slots = shown .slots in
-    let a = slots .starts 32 (omega arith) in
-    let b = slots .below 32 (omega arith) in
+    let a = slots .starts spare-slot (omega arith) in
+    let b = slots .below spare-slot (omega arith) in
     let first = spare-length o w 0 in
     let y = spare-cases first g slots refl x in
     let from-zero : (k : ℕ) → 0 + k ≡ k = λ k. omega arith in
-    let at : word m set-starts spare-slot ≡ o = spare-there first set-starts (omega arith) (omega arith) 32 in
+    let at : word m set-starts spare-slot ≡ o = spare-there first set-starts (omega arith) (omega arith) spare-slot in
     let none : ShowsRows g m o [] = record {
       size = word-there w set-lengths spare-slot 0 (omega arith) (omega arith);
       few = omega arith;

@@ -22,7 +22,7 @@ use Rattle.state_shown.specs.laws.FrontKept.{kinds-stored, kinds-then, kinds-in
 use Rattle.cfg_merging.specs.Turns.{turned, turn-next, turn-last, front-turned, Left, left-next, left-last}
 use Rattle.cfg_bundles.specs.EdgesAndCases.{input-count, condition-in}
 use Rattle.cfg_planning.specs.Planning.{place-of, per-case-deferred, per-case-condition, in-parent, with-passed, unique-from}
-use Rattle.cfg_planning.specs.Planning.{unique-input}
+use Rattle.cfg_planning.specs.Planning.{unique-input, to-merge}
 use Rattle.cfg_planning.specs.Planning.{is-true, all-from, all-true, Planned, planned, plan-input, also, plan-inputs, plan-bundle}
 use Rattle.cfg_planning.specs.Planning.{plan-at}
 use Rattle.cfg_planning.specs.Planning.{plan-bundles}
@@ -75,7 +75,7 @@ module _ (l : List ℕ) (n : ℕ) (size : n ≡ case-total l) where
   unfolding per-case-deferred
   places-first t = rw all-turns
 
-  pub unique-first : (ps : List ℕ) (k : ℕ) → unique-from l ps k (n - 0) 0 65535 ≡ unique-input l ps k
+  pub unique-first : (ps : List ℕ) (k : ℕ) → unique-from l ps k (n - 0) 0 to-merge ≡ unique-input l ps k
   unique-first ps k = rw all-turns
 
   pub all-first : (ps : List ℕ) → all-from l ps (n - 0) 0 ≡ all-true l ps
@@ -89,39 +89,39 @@ module _ (l : List ℕ) (j p n : ℕ) (of-length : n ≡ case-set-length l j) wh
   module _ (some-left : n ≡ 0 → ⊥) where
     pub condition-elsewhere : p ≡ no-bundle-word → 2 ≡ per-case-condition l j p
     unfolding per-case-condition
-    condition-elsewhere e = rw (← of-length, ne-eqb n 0 some-left, eq-eqb p 65535 e)
+    condition-elsewhere e = rw (← of-length, ne-eqb n 0 some-left, eq-eqb p no-bundle-word e)
 
     pub condition-there : (p ≡ no-bundle-word → ⊥) → {a : ℕ} → a ≡ condition-in l p n → a ≡ per-case-condition l j p
     unfolding per-case-condition
-    condition-there d e = e ∙ rw (← of-length, ne-eqb n 0 some-left, ne-eqb p 65535 d)
+    condition-there d e = e ∙ rw (← of-length, ne-eqb n 0 some-left, ne-eqb p no-bundle-word d)
 
 module _ (l : List ℕ) (j v kind : ℕ) (of-kind : kind ≡ case-kind l j) where
   pub parent-same : (kind ≡ case-claimed → ⊥) → v ≡ in-parent l j v
   unfolding in-parent
-  parent-same d = rw (← of-kind, ne-eqb kind 2 d)
+  parent-same d = rw (← of-kind, ne-eqb kind case-claimed d)
 
   module _ (claimed : kind ≡ case-claimed) {const : Bool} (is-const : const ≡ ltb v output-from) where
     pub parent-const : const ≡ true → v ≡ in-parent l j v
     unfolding in-parent
-    parent-const e = rw (← of-kind, eq-eqb kind 2 claimed, ← is-const, e)
+    parent-const e = rw (← of-kind, eq-eqb kind case-claimed claimed, ← is-const, e)
 
     module _ (not-const : const ≡ false) {given : Bool} (is-given : given ≡ is-input v) where
-      pub parent-none : given ≡ false → 65535 ≡ in-parent l j v
+      pub parent-none : given ≡ false → to-merge ≡ in-parent l j v
       unfolding in-parent
-      parent-none e = rw (← of-kind, eq-eqb kind 2 claimed, ← is-const, not-const, ← is-given, e)
+      parent-none e = rw (← of-kind, eq-eqb kind case-claimed claimed, ← is-const, not-const, ← is-given, e)
 
       module _ (an-input : given ≡ true) {r body : ℕ} (of-region : r ≡ input-region v) (of-body : body ≡ case-body l j) where
-        pub parent-elsewhere : (r ≡ body → ⊥) → 65535 ≡ in-parent l j v
+        pub parent-elsewhere : (r ≡ body → ⊥) → to-merge ≡ in-parent l j v
         unfolding in-parent
         parent-elsewhere d =
-            rw (← of-kind, eq-eqb kind 2 claimed, ← is-const, not-const, ← is-given, an-input, ← of-region, ← of-body, ne-eqb r body d)
+            rw (← of-kind, eq-eqb kind case-claimed claimed, ← is-const, not-const, ← is-given, an-input, ← of-region, ← of-body, ne-eqb r body d)
 
         pub parent-given : r ≡ body → {k a : ℕ} → k ≡ input-index v → a ≡ case-input l j k → a ≡ in-parent l j v
         unfolding in-parent
         parent-given e index is =
             is ∙ rw (
               ← of-kind,
-              eq-eqb kind 2 claimed,
+              eq-eqb kind case-claimed claimed,
               ← is-const,
               not-const,
               ← is-given,
@@ -145,19 +145,19 @@ module _ (l ps : List ℕ) (k n j found : ℕ) {whole : ℕ} (left : unique-from
     module _ (p : ℕ) (of-place : p ≡ getD ps j 0) where
       pub unique-past : p ≡ no-bundle-word → unique-from l ps k (n - (j + 1)) (j + 1) found ≡ whole
       unfolding unique-from
-      unique-past e = rw (add-one j) (rw (add-one j) at (rw (← of-place, eq-eqb p 65535 e) at (rw again at left)))
+      unique-past e = rw (add-one j) (rw (add-one j) at (rw (← of-place, eq-eqb p no-bundle-word e) at (rw again at left)))
 
       module _ (there : p ≡ no-bundle-word → ⊥) {x v f : ℕ} (of-input : x ≡ input-word l p k) (passed : v ≡ in-parent l j x)
           (is : f ≡ with-passed found v) where
-        next : pick (eqb f 65535) 65535 (unique-from l ps k (n - (j + 1)) (suc j) f) ≡ whole
+        next : pick (eqb f to-merge) to-merge (unique-from l ps k (n - (j + 1)) (suc j) f) ≡ whole
         unfolding unique-from
-        next = rw (← of-place, ne-eqb p 65535 there, ← of-input, ← passed, ← is) at (rw again at left)
+        next = rw (← of-place, ne-eqb p no-bundle-word there, ← of-input, ← passed, ← is) at (rw again at left)
 
-        pub unique-differs : f ≡ 65535 → 65535 ≡ whole
-        unique-differs e = rw (eq-eqb f 65535 e) at next
+        pub unique-differs : f ≡ to-merge → to-merge ≡ whole
+        unique-differs e = rw (eq-eqb f to-merge e) at next
 
-        pub unique-next : (f ≡ 65535 → ⊥) → unique-from l ps k (n - (j + 1)) (j + 1) f ≡ whole
-        unique-next d = rw (add-one j) (rw (add-one j) at (rw (ne-eqb f 65535 d) at next))
+        pub unique-next : (f ≡ to-merge → ⊥) → unique-from l ps k (n - (j + 1)) (j + 1) f ≡ whole
+        unique-next d = rw (add-one j) (rw (add-one j) at (rw (ne-eqb f to-merge d) at next))
 
 module _ (l ps : List ℕ) (n j : ℕ) {whole : Bool} (left : all-from l ps (n - j) j ≡ whole) where
   pub all-last : n ≤ j → true ≡ whole
@@ -177,7 +177,7 @@ module _ (l ps : List ℕ) (n j : ℕ) {whole : Bool} (left : all-from l ps (n -
     all-next e = rw (add-one j) (rw (add-one j) at (rw e at next-true))
 
 pub input-planned : (l l₁ : List ℕ) (q : ℕ) (ps : List ℕ) (k v : ℕ) → v ≡ unique-input l ps k → l₁ ≡ input-stored l q k v
-    → planned l₁ (eqb v 65535) ≡ plan-input l q ps k
+    → planned l₁ (eqb v to-merge) ≡ plan-input l q ps k
 unfolding plan-input
 input-planned l l₁ q ps k v e last = rw (last, e)
 

@@ -33,7 +33,7 @@ use Rattle.state_shown.specs.States.{ShowsCase, shows-ok, shows-nothing, shows-
 use Rattle.cfg_lookups.specs.laws.shown.Shown.{input-in, input-below, input-above}
 use Rattle.cfg_merging.specs.Turns.{turned}
 use Rattle.cfg_bundles.specs.EdgesAndCases.{condition-in}
-use Rattle.cfg_planning.specs.Planning.{place-of, per-case-deferred, per-case-condition, in-parent, passed-by, with-passed}
+use Rattle.cfg_planning.specs.Planning.{place-of, per-case-deferred, per-case-condition, in-parent, passed-by, with-passed, to-merge}
 use Rattle.cfg_planning.specs.Planning.{unique-from}
 use Rattle.cfg_planning.specs.Planning.{unique-input, is-true, all-from, all-true}
 use Rattle.cfg_merging.specs.laws.shown.Spare.{SpareOnly, spare-there, spare-preserves, spare-outside, case-stays}
@@ -41,7 +41,7 @@ use Rattle.state_shown.specs.laws.Finds.{Finds, found as there-is, none-found, 
 use Rattle.nesting.specs.steps.TargetsAndCases.{same-target-is, per-cases}
 use Rattle.state_words.specs.Values.{held-from, input-from, names-nothing, output-from}
 use Rattle.state_words.specs.Rows.{bundle-condition, case-body, case-claimed, case-input, case-input-at, case-kind, case-set-length}
-use Rattle.state_words.specs.Rows.{case-set-length-at, case-set-start, case-word-at, no-bundle-word, spare-slot}
+use Rattle.state_words.specs.Rows.{case-set-length-at, case-set-start, case-word-at, no-bundle-word, spare-slot, slot-size}
 
 -- A word for a value that can be passed, 65535 where none can.
 pub data ShowsPassed (a : ℕ) : Option Value → Type 0 where
@@ -73,7 +73,7 @@ module _ (g : Graph) (l : List ℕ) (r j : ℕ) where
         rw (eq-eqb (case-kind l j) case-claimed kind, le-ltb x output-from h, input-in x a b, body)
         (go (eqb (input-region x) (c .structured-body)))
       where
-        go : (b : Bool) → ShowsPassed (pick b (case-input l j (input-index x)) 65535)
+        go : (b : Bool) → ShowsPassed (pick b (case-input l j (input-index x)) to-merge)
             (pick b (some (getD (c .structured-body-inputs) (input-index x) (undef 0))) none)
         go true = passes (inputs (input-index x) (omega arith))
         go false = passes-none refl
@@ -100,7 +100,7 @@ module _ (g : Graph) (l : List ℕ) (r j : ℕ) where
 -- ---- The bundle of a set to a target.
 -- Its place p, outside of the spare slot, which starts at bundle o.
 pub data ShowsPlace (g : Graph) (o : ℕ) (l : List ℕ) (p : ℕ) (x : DeferredTarget) (d : DeferredEdgeBundleSet) : Type 0 where
-  stands-at : {e : DeferredEdgeBundle} → (p ≡ no-bundle-word → ⊥) → ((q : ℕ) → q < 33 → p ≡ o + q → ⊥) → ShowsBundle g l p e → e .target ≡ x
+  stands-at : {e : DeferredEdgeBundle} → (p ≡ no-bundle-word → ⊥) → ((q : ℕ) → q < slot-size → p ≡ o + q → ⊥) → ShowsBundle g l p e → e .target ≡ x
       → get-edge-bundle-by-target x d ≡ some e → ShowsPlace g o l p x d
   stands-nowhere : p ≡ no-bundle-word → get-edge-bundle-by-target x d ≡ none → ShowsPlace g o l p x d
 
@@ -112,7 +112,7 @@ place-stays sp (stands-nowhere gone get) = stands-nowhere gone get
 
 module _ (g : Graph) (valid : Valid g) (o : ℕ) (l : List ℕ) (t : ℕ) {x : DeferredTarget} (shown : ShowsTarget g t x) where
   place-shown : (j : ℕ) {d : DeferredEdgeBundleSet} → ShowsSet g l (case-set-start l j) (case-set-length l j) d
-      → ((i q : ℕ) → i < case-set-length l j → q < 33 → case-set-start l j + i ≡ o + q → ⊥)
+      → ((i q : ℕ) → i < case-set-length l j → q < slot-size → case-set-start l j + i ≡ o + q → ⊥)
       → ShowsPlace g o l (place-of l t j) x d
   place-shown j {d} y apart = let few = valid .count .1 in
       go (finds l (omega arith) (case-set-start l j) shown y)
@@ -133,10 +133,10 @@ unfolding per-case-condition condition-in
 condition-shown g o l j p [] size y =
     rw (eq-eqb (case-set-length l j) 0 size) (record { tree = shows-undef refl; made = omega arith })
 condition-shown g o l j p (e ∷ d) size (stands-nowhere gone get) =
-    rw (ne-eqb (case-set-length l j) 0 (omega arith), eq-eqb p 65535 gone, get)
+    rw (ne-eqb (case-set-length l j) 0 (omega arith), eq-eqb p no-bundle-word gone, get)
     (record { tree = shows-false refl; made = omega arith })
 condition-shown g o l j p (e ∷ d) size (stands-at {e = f} there apart shown is get) =
-    rw (ne-eqb (case-set-length l j) 0 (omega arith), ne-eqb p 65535 there, get, size) (go (eqb (length (e ∷ d)) 1))
+    rw (ne-eqb (case-set-length l j) 0 (omega arith), ne-eqb p no-bundle-word there, get, size) (go (eqb (length (e ∷ d)) 1))
   where
     go : (b : Bool) → ShowsCondition l (pick b 1 (bundle-condition l p)) (pick b true-cond (f .condition))
     go true = record { tree = shows-true refl; made = omega arith }
@@ -199,16 +199,16 @@ module _ (g : Graph) (o : ℕ) (l : List ℕ) (r : ℕ) (x : DeferredTarget) (ps
     passed cs = passed-inputs k cs (per-cases x cs)
 
     -- A step past a case that does not go there, and past one that does.
-    step-nowhere : (c : MaybeClaimedRegion) (cs : List MaybeClaimedRegion) (j found : ℕ) → getD ps j 0 ≡ 65535
+    step-nowhere : (c : MaybeClaimedRegion) (cs : List MaybeClaimedRegion) (j found : ℕ) → getD ps j 0 ≡ no-bundle-word
         → unique-from l ps k (length (c ∷ cs)) j found ≡ unique-from l ps k (length cs) (suc j) found
     unfolding unique-from
-    step-nowhere c cs j found e = rw (eq-eqb (getD ps j 0) 65535 e)
+    step-nowhere c cs j found e = rw (eq-eqb (getD ps j 0) no-bundle-word e)
 
-    step-there : (c : MaybeClaimedRegion) (cs : List MaybeClaimedRegion) (j found : ℕ) → (getD ps j 0 ≡ 65535 → ⊥) → (a : ℕ)
+    step-there : (c : MaybeClaimedRegion) (cs : List MaybeClaimedRegion) (j found : ℕ) → (getD ps j 0 ≡ no-bundle-word → ⊥) → (a : ℕ)
         → with-passed found (passed-by l k (getD ps j 0) j) ≡ a
-        → unique-from l ps k (length (c ∷ cs)) j found ≡ pick (eqb a 65535) 65535 (unique-from l ps k (length cs) (suc j) a)
+        → unique-from l ps k (length (c ∷ cs)) j found ≡ pick (eqb a to-merge) to-merge (unique-from l ps k (length cs) (suc j) a)
     unfolding unique-from
-    step-there c cs j found d a e = rw (ne-eqb (getD ps j 0) 65535 d, e)
+    step-there c cs j found d a e = rw (ne-eqb (getD ps j 0) no-bundle-word d, e)
 
     abbrev with-inputs : MaybeClaimedRegion → Option (List Value) → List (Option Value) → List (Option Value)
     with-inputs c o rest = elim o [ none ↦ rest | some vs ↦ nesting.in-parent c (getD vs k (undef 0)) ∷ rest ]
@@ -224,21 +224,21 @@ module _ (g : Graph) (o : ℕ) (l : List ℕ) (r : ℕ) (x : DeferredTarget) (ps
 
     -- One more beside a value that was found, and the first.
     more-passed : (f a : ℕ) {v : Value} {o : Option Value} → Names f v → ShowsPassed a o
-        → (with-passed f a ≡ pick (same-as v o) f 65535) × (same-as v o ≡ eqb f a)
+        → (with-passed f a ≡ pick (same-as v o) f to-merge) × (same-as v o ≡ eqb f a)
     unfolding with-passed
     more-passed f a n (passes-none e) =
         let b = n .below in
-        (rw (ne-eqb f 65535 (omega arith), ne-eqb f a (omega arith)), sym (ne-eqb f a (omega arith)))
+        (rw (ne-eqb f to-merge (omega arith), ne-eqb f a (omega arith)), sym (ne-eqb f a (omega arith)))
     more-passed f a {v} n (passes {v = u} m) =
         let b = n .below in
         let same : same-value u v ≡ eqb f a = rw (← m .is, ← n .is) (equal-values a f b ∙ eqb-sym a f) in
-        (rw (ne-eqb f 65535 (omega arith), same) (go (ℕ-discrete f a)), same)
+        (rw (ne-eqb f to-merge (omega arith), same) (go (ℕ-discrete f a)), same)
       where
-        go : Dec (f ≡ a) → pick (eqb f a) a 65535 ≡ pick (eqb f a) f 65535
+        go : Dec (f ≡ a) → pick (eqb f a) a to-merge ≡ pick (eqb f a) f to-merge
         go (yes e) = rw (eq-eqb f a e) (sym e)
         go (no d) = rw (ne-eqb f a d)
 
-    first-passed : (a : ℕ) → with-passed 65535 a ≡ a
+    first-passed : (a : ℕ) → with-passed to-merge a ≡ a
     unfolding with-passed
     first-passed a = refl
 
@@ -260,16 +260,16 @@ module _ (g : Graph) (o : ℕ) (l : List ℕ) (r : ℕ) (x : DeferredTarget) (ps
         go at (stands-at {e} there apart y is get) rest =
             let m = more-passed f (passed-by l k (getD ps j 0) j) n (passed-shown j c at y is) in
             let b = same-as v (nesting.in-parent c (getD (e .target-inputs) k (undef 0))) in
-            rw (passed-there c cs get, step-there c cs j f there (pick b f 65535) (m .0)) (by b)
+            rw (passed-there c cs get, step-there c cs j f there (pick b f to-merge) (m .0)) (by b)
           where
-            by : (b : Bool) → ShowsPassed (pick (eqb (pick b f 65535) 65535) 65535
-                (unique-from l ps k (length cs) (suc j) (pick b f 65535)))
+            by : (b : Bool) → ShowsPassed (pick (eqb (pick b f to-merge) to-merge) to-merge
+                (unique-from l ps k (length cs) (suc j) (pick b f to-merge)))
                 (pick (b && all (same-as v) (passed cs)) (some v) none)
-            by true = let h = n .below in rw (ne-eqb f 65535 (omega arith)) rest
+            by true = let h = n .below in rw (ne-eqb f to-merge (omega arith)) rest
             by false = passes-none refl
 
     pub unique-from-shown : (cs : List MaybeClaimedRegion) (j : ℕ) → ((i : ℕ) → i < length cs → CaseAt (j + i) (getD cs i no-case))
-        → ShowsPassed (unique-from l ps k (length cs) j 65535) (nesting.unique-input (passed cs))
+        → ShowsPassed (unique-from l ps k (length cs) j to-merge) (nesting.unique-input (passed cs))
     unfolding unique-from
     unique-from-shown [] j each = passes-none refl
     unique-from-shown (c ∷ cs) j each =
@@ -280,25 +280,25 @@ module _ (g : Graph) (o : ℕ) (l : List ℕ) (r : ℕ) (x : DeferredTarget) (ps
         go first (first .place) (unique-from-shown cs (suc j) rest) (λ f v n. found-shown cs (suc j) rest f n)
       where
         go : CaseAt j c → ShowsPlace g o l (getD ps j 0) x (deferred-of c)
-            → ShowsPassed (unique-from l ps k (length cs) (suc j) 65535) (nesting.unique-input (passed cs))
+            → ShowsPassed (unique-from l ps k (length cs) (suc j) to-merge) (nesting.unique-input (passed cs))
             → ((f : ℕ) (v : Value) → Names f v
             → ShowsPassed (unique-from l ps k (length cs) (suc j) f) (pick (all (same-as v) (passed cs)) (some v) none))
-            → ShowsPassed (unique-from l ps k (length (c ∷ cs)) j 65535) (nesting.unique-input (passed (c ∷ cs)))
-        go at (stands-nowhere gone get) rest more = rw (passed-nowhere c cs get, step-nowhere c cs j 65535 gone) rest
+            → ShowsPassed (unique-from l ps k (length (c ∷ cs)) j to-merge) (nesting.unique-input (passed (c ∷ cs)))
+        go at (stands-nowhere gone get) rest more = rw (passed-nowhere c cs get, step-nowhere c cs j to-merge gone) rest
         go at (stands-at {e} there apart y is get) rest more =
             rw (
               passed-there c cs get,
-              step-there c cs j 65535 there (passed-by l k (getD ps j 0) j)
+              step-there c cs j to-merge there (passed-by l k (getD ps j 0) j)
                   (first-passed (passed-by l k (getD ps j 0) j)),
             ) (by (passed-shown j c at y is))
           where
             by : {o : Option Value} → ShowsPassed (passed-by l k (getD ps j 0) j) o
-                → ShowsPassed (pick (eqb (passed-by l k (getD ps j 0) j) 65535) 65535
+                → ShowsPassed (pick (eqb (passed-by l k (getD ps j 0) j) to-merge) to-merge
                 (unique-from l ps k (length cs) (suc j) (passed-by l k (getD ps j 0) j))) (nesting.unique-input (o ∷ passed cs))
             by (passes-none e) = rw e (passes-none refl)
             by (passes {v} m) =
                 let h = m .below in
-                rw (ne-eqb (passed-by l k (getD ps j 0) j) 65535 (omega arith)) (more (passed-by l k (getD ps j 0) j) v m)
+                rw (ne-eqb (passed-by l k (getD ps j 0) j) to-merge (omega arith)) (more (passed-by l k (getD ps j 0) j) v m)
 
 pub case-at-stays : {g : Graph} {o : ℕ} {l l′ : List ℕ} → SpareOnly o l l′ → {r : ℕ} {x : DeferredTarget} {ps : List ℕ} {j : ℕ}
     {c : MaybeClaimedRegion}

@@ -29,7 +29,7 @@ use Rattle.state_shown.specs.laws.Stores.{word-there, word-apart}
 use Rattle.cfg_merging.specs.Turns.{turned}
 use Rattle.cfg_bundles.specs.EdgesAndCases.{input-count}
 use Rattle.cfg_planning.specs.Planning.{Planned, planned, also, per-case-deferred, unique-input, all-true, plan-input, plan-inputs}
-use Rattle.cfg_planning.specs.Planning.{plan-bundle}
+use Rattle.cfg_planning.specs.Planning.{plan-bundle, to-merge}
 use Rattle.cfg_planning.specs.Planning.{plan-at, plan-bundles}
 use Rattle.cfg_merging.specs.laws.shown.Spare.{SpareOnly, spare-same, spare-word, spare-then, spare-there, spare-total}
 use Rattle.cfg_merging.specs.laws.shown.Spare.{spare-preserves, spare-keeps}
@@ -42,7 +42,7 @@ use Rattle.cfg_planning.specs.laws.shown.PerCaseShown.{case-at-stays, ca
 use Rattle.nesting.specs.steps.TargetsAndCases.{per-cases}
 use Rattle.state_words.specs.Rows.{bundle-condition, bundle-condition-at, bundle-count, bundle-count-at, bundle-input, bundle-input-at}
 use Rattle.state_words.specs.Rows.{bundle-row-at, bundle-row-size, bundle-target, bundle-target-at, bundle-word-at, no-bundle-word}
-use Rattle.state_words.specs.Rows.{own-edges-from, spare-slot}
+use Rattle.state_words.specs.Rows.{own-edges-from, spare-slot, condition-true, slot-size}
 
 -- ---- A planned bundle in a row: an input that is to be merged is 65535, a condition that is to be made 0.
 pub data ShowsPlannedInput (a : ℕ) : PlannedInput → Type 0 where
@@ -50,7 +50,7 @@ pub data ShowsPlannedInput (a : ℕ) : PlannedInput → Type 0 where
   shows-merged : {ty : ℕ} {vs : List Value} → a ≡ no-bundle-word → ShowsPlannedInput a (merged ty vs)
 
 pub data ShowsPlannedCondition (a : ℕ) : Option LazyConds → Type 0 where
-  always : a ≡ 1 → ShowsPlannedCondition a none
+  always : a ≡ condition-true → ShowsPlannedCondition a none
   to-be-made : {cs : LazyConds} → a ≡ 0 → ShowsPlannedCondition a (some cs)
 
 abbrev pub no-input : PlannedInput
@@ -84,19 +84,19 @@ module _ (k ty : ℕ) (ps : List nesting.PerCaseDeferred) where
   planned-shown (passes n) = shows-shared n
   planned-shown (passes-none e) = shows-merged e
 
-  planned-needs : {a : ℕ} {u : Option Value} → ShowsPassed a u → eqb a 65535 ≡ needs-output (nesting.plan-input k ty ps u)
-  planned-needs {a} (passes n) = let h = n .below in ne-eqb a 65535 (omega arith)
-  planned-needs {a} (passes-none e) = eq-eqb a 65535 e
+  planned-needs : {a : ℕ} {u : Option Value} → ShowsPassed a u → eqb a to-merge ≡ needs-output (nesting.plan-input k ty ps u)
+  planned-needs {a} (passes n) = let h = n .below in ne-eqb a to-merge (omega arith)
+  planned-needs {a} (passes-none e) = eq-eqb a to-merge e
 
 input-is : (q : ℕ) (places l : List ℕ) (k : ℕ) → k < 4
     → plan-input l q places k ≡ planned (stored l bundles (bundle-input-at q k) (unique-input l places k))
-    (eqb (unique-input l places k) 65535)
+    (eqb (unique-input l places k) to-merge)
 unfolding plan-input input-stored
 input-is q places l k h = rw (lt-ltb k 4 h)
 
 -- ---- The inputs of the row at bundle q, from input k on.
 module _ (g : Graph) (o : ℕ) (r : ℕ) (x : DeferredTarget) (cs : List MaybeClaimedRegion) (places : List ℕ) (q : ℕ) (from : o ≤ q)
-    (to : q < o + 33) (below : o + 33 ≤ own-edges-from) where
+    (to : q < o + slot-size) (below : o + slot-size ≤ own-edges-from) where
   record InputsPlanned (l : List ℕ) (b : Bool) (y : Planned) (k : ℕ) (is : List PlannedInput) : Type 0 where
     pub spare : SpareOnly o l (y .words)
     pub same-lengths : section (y .words) set-lengths ≡ section l set-lengths
@@ -127,10 +127,10 @@ module _ (g : Graph) (o : ℕ) (r : ℕ) (x : DeferredTarget) (cs : List MaybeCl
       rw count (unique-from-shown g o l r x places k (omega arith) (omega arith) cs 0
       (λ j h. let e : 0 + j ≡ j = omega arith in rw e (at j h))) in
       let l₁ = stored l bundles (bundle-input-at q k) v in
-      let stored-is : plan-input l q places k ≡ planned l₁ (eqb v 65535) = input-is q places l k (omega arith) in
+      let stored-is : plan-input l q places k ≡ planned l₁ (eqb v to-merge) = input-is q places l k (omega arith) in
       let sp = spare-word o l (bundle-input-at q k) v (omega arith) (omega arith) in
       let y = nesting.plan-input k (target-type g x k) (per-cases x cs) (nesting.unique-input (passed-inputs k cs (per-cases x cs))) in
-      let b₁ = pick (eqb v 65535) true b in
+      let b₁ = pick (eqb v to-merge) true b in
       let ih = inputs-from n (suc k) (omega arith) (omega arith) l₁ (rw (sp .words) full) (spare-total sp ∙ count)
       (λ j h. case-at-stays sp (at j h)) b₁ in
       let other = word-apart l bundles (bundle-input-at q k) v bundles in
@@ -188,7 +188,7 @@ planned-stays same x =
       inputs = λ k h. rw (same .words (3 + k) (omega arith)) (x .inputs k h);
     }
 
-module _ (g : Graph) (valid : Valid g) (o : ℕ) (below : o + 33 ≤ own-edges-from) (r : ℕ) (cs : List MaybeClaimedRegion) where
+module _ (g : Graph) (valid : Valid g) (o : ℕ) (below : o + slot-size ≤ own-edges-from) (r : ℕ) (cs : List MaybeClaimedRegion) where
   record BundlePlanned (l : List ℕ) (y : Planned) (q : ℕ) (b : PlannedBundle) : Type 0 where
     pub spare : SpareOnly o l (y .words)
     pub same-lengths : section (y .words) set-lengths ≡ section l set-lengths
@@ -198,7 +198,7 @@ module _ (g : Graph) (valid : Valid g) (o : ℕ) (below : o + 33 ≤ own-edges-f
 
   module _ (l : List ℕ) (full : used ≤ length l) (at : word l set-starts spare-slot ≡ o) (y : ShowsCases g l r cs)
       (back : ShowsReturned g l)
-      (q : ℕ) (from : o ≤ q) (to : q < o + 33) {t : DeferredTargetSummary} (row : ShowsRow g l q t) where
+      (q : ℕ) (from : o ≤ q) (to : q < o + slot-size) {t : DeferredTargetSummary} (row : ShowsRow g l q t) where
     abbrev x : DeferredTarget
     x = t .target
 
@@ -305,7 +305,7 @@ module _ (g : Graph) (valid : Valid g) (o : ℕ) (below : o + 33 ≤ own-edges-f
     pub before : (p : ℕ) → p < o + i → SameBundle l (y .words) p
     pub needed : y .needed ≡ pick (any needs-select bs) true b
 
-  rows-from : (s : NestState) (ts : List DeferredTargetSummary) (i : ℕ) → i + length ts ≤ 33 → (l : List ℕ)
+  rows-from : (s : NestState) (ts : List DeferredTargetSummary) (i : ℕ) → i + length ts ≤ slot-size → (l : List ℕ)
       → word l set-starts spare-slot ≡ o
       → ShowsState g l s → ShowsCases g l r cs → ((k : ℕ) → k < length ts → ShowsRow g l (o + (i + k)) (getD ts k no-summary)) → (b : Bool)
       → RowsPlanned l b (turned (plan-at o g) (planned l b) (length ts) i) i (map (nesting.plan-bundle g cs) ts)
@@ -364,8 +364,8 @@ plan-bundles-shown g valid w r s cs shown x rows =
     let o = word w set-starts spare-slot in
     let ts = nesting.deferred-targets cs [] in
     let slots = shown .slots in
-    let a = slots .starts 32 (omega arith) in
-    let b = slots .below 32 (omega arith) in
+    let a = slots .starts spare-slot (omega arith) in
+    let b = slots .below spare-slot (omega arith) in
     let few = rows .few in
     let from-zero : (k : ℕ) → 0 + k ≡ k = λ k. omega arith in
     let all = rows-from g valid o (omega arith) r cs s ts 0 (omega arith) w refl shown x (λ k h. rw (from-zero k) (rows .each k h)) false in

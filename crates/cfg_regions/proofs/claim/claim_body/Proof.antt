@@ -46,8 +46,8 @@ returns-2 c =
 structurize-loop-requires : tie.Need-structurize-loop-requires
 structurize-loop-requires c κs = search needs
 
-claim-of-requires : tie.Need-claim-of-requires
-claim-of-requires c κs = search needs
+claim-from-made-requires : tie.Need-claim-from-made-requires
+claim-from-made-requires c κs = search needs
 
 returns-3 : tie.Need-returns-3
 returns-3 c =
@@ -59,7 +59,7 @@ returns-3 c =
     λ g st. body-loop g _ _ (at-set-region-state .set-region-state .ensures)
     (at-set-structured-body .set-structured-body .ensures) (at-backedge-count .backedge-count .ensures)
     (at-zero .zero .ensures) (d .before .same .ensures) (d .if1 .left) (c .before .before .before .before .find-backedge .ensures)
-    (c .before .before .before .if2 .left) (c .before .structurize-loop .ensures) (c .claim-of .ensures)
+    (c .before .before .before .if2 .left) (c .before .structurize-loop .ensures) (c .claim-from-made .ensures)
 
 pub claim-body-spec : {M : Type 1} → statement M
 claim-body-spec =
@@ -74,5 +74,5 @@ claim-body-spec =
     find-backedge-requires
     returns-2
     structurize-loop-requires
-    claim-of-requires
+    claim-from-made-requires
     returns-3)

@@ -12,20 +12,20 @@ own-bundle-requires c κs = search needs
 condition-in-requires : tie.Need-condition-in-requires
 condition-in-requires c κs = search needs
 
-fill-split-requires : tie.Need-fill-split-requires
-fill-split-requires c κs = search needs
+fill-claimed-and-others-requires : tie.Need-fill-claimed-and-others-requires
+fill-claimed-and-others-requires c κs = search needs
 
 structurize-select-into-requires : tie.Need-structurize-select-into-requires
 structurize-select-into-requires c κs = search needs
 
 returns : tie.Need-returns
 returns c =
-    let at-fill-split = c .before .before in
-    let at-condition-in = at-fill-split .before .before in
+    let at-fill-claimed-and-others = c .before .before in
+    let at-condition-in = at-fill-claimed-and-others .before .before in
     let at-own-bundle = at-condition-in .before .before in
     let at-set-length = at-own-bundle .before .before in
     λ g st. resolve-path g _ _ _ st (at-set-length .set-length .ensures) (at-own-bundle .own-bundle .ensures)
-    (at-condition-in .condition-in .ensures) (at-fill-split .fill-split .ensures g) (c .structurize-select-into .ensures g)
+    (at-condition-in .condition-in .ensures) (at-fill-claimed-and-others .fill-claimed-and-others .ensures g) (c .structurize-select-into .ensures g)
 
 pub resolve-by-spec : {M : Type 1} → statement M
 resolve-by-spec =
@@ -34,6 +34,6 @@ resolve-by-spec =
     set-length-requires
     own-bundle-requires
     condition-in-requires
-    fill-split-requires
+    fill-claimed-and-others-requires
     structurize-select-into-requires
     returns)

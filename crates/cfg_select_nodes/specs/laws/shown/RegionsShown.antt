@@ -26,6 +26,7 @@ use Rattle.cfg_select_nodes.specs.laws.shown.Places.{From, first-of, res
 use Rattle.nesting.specs.steps.TargetsAndCases.{children-in}
 use Rattle.format.specs.Refusals.{too-many}
 use Rattle.state_words.specs.Rows.{case-body, case-body-at, case-claimed, case-kind, case-row-at, case-word, case-word-at, regions-at}
+use Rattle.state_words.specs.Rows.{case-row-size, case-body-field}
 
 -- What a step of the code answers shows what the definition's step gives, or refusal 9.
 pub data ShowsMade {A : Type 0} (R : A → NestState → Type 0) : Made → StepAnswer A → Type 0 where
@@ -49,7 +50,7 @@ refused-of shows-refused = refl
 pub record KeepsCases (j : ℕ) (w w′ : List ℕ) : Type 0 where
   pub changes : ChangesOnly cases regions-at w w′
   pub before : (i : ℕ) → i < case-row-at j → word w′ cases i ≡ word w cases i
-  pub words : (k i : ℕ) → i < 10 → (i ≡ 2 → ⊥) → case-word w′ k i ≡ case-word w k i
+  pub words : (k i : ℕ) → i < case-row-size → (i ≡ case-body-field → ⊥) → case-word w′ k i ≡ case-word w k i
   pub bodies : (k : ℕ) → case-kind w k ≡ case-claimed → case-body w′ k ≡ case-body w k
 
 keeps-same : (j : ℕ) (w : List ℕ) → KeepsCases j w w

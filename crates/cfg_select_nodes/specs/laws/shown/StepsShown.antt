@@ -19,8 +19,8 @@ use Rattle.state_shown.specs.laws.RegionsKept.{preserves-same, preserves-then, 
 use Rattle.state_shown.specs.laws.RegionsKept.{set-stays}
 use Rattle.state_shown.specs.laws.RegionSteps.{OfNoRegion, kept-by, bundles-same, StatesStay, word-concerns, preserves-by, kept-word}
 use Rattle.cfg_select_nodes.specs.laws.shown.RegionsShown.{KeepsCases}
-use Rattle.state_words.specs.Rows.{case-body, case-body-at, case-claimed, case-kind, case-set-length, case-set-start, case-word}
-use Rattle.state_words.specs.Rows.{case-word-at}
+use Rattle.state_words.specs.Rows.{case-body, case-body-at, case-claimed, case-kind, case-set-length, case-set-start, case-word, slot-size}
+use Rattle.state_words.specs.Rows.{case-word-at, bundle-row-size, case-row-size, case-body-field}
 use Rattle.state_words.specs.Rows.{cases-at, kind-ready, region-kind, spare-slot}
 
 pub record SelectStep (g : Graph) (r : ℕ) (w w′ : List ℕ) : Type 0 where
@@ -28,10 +28,10 @@ pub record SelectStep (g : Graph) (r : ℕ) (w w′ : List ℕ) : Type 0 where
   pub same-kinds : (q : ℕ) → region-kind w′ q ≡ region-kind w q
   pub same-starts : (q : ℕ) → word w′ set-starts q ≡ word w set-starts q
   pub same-head : (k : ℕ) → 7 ≤ k → word w′ head k ≡ word w head k
-  pub case-words : (k i : ℕ) → i < 10 → (i ≡ 2 → ⊥) → case-word w′ k i ≡ case-word w k i
+  pub case-words : (k i : ℕ) → i < case-row-size → (i ≡ case-body-field → ⊥) → case-word w′ k i ≡ case-word w k i
   pub case-bodies : (k : ℕ) → case-kind w k ≡ case-claimed → case-body w′ k ≡ case-body w k
   pub others : (q : ℕ) → q < length (g .regions) → (q ≡ r → ⊥) → KeptRegion w w′ q
-  pub bundles-kept : (p : ℕ) → ((i : ℕ) → i < 33 → word w set-starts spare-slot + i ≡ p → ⊥) → SameBundle w w′ p
+  pub bundles-kept : (p : ℕ) → ((i : ℕ) → i < slot-size → word w set-starts spare-slot + i ≡ p → ⊥) → SameBundle w w′ p
 
 pub step-same : (g : Graph) (r : ℕ) (w : List ℕ) → SelectStep g r w w
 step-same g r w =
@@ -62,7 +62,7 @@ step-then a b =
 
 -- A step that changes one section, none of the regions' and not the cases, and one total of the head.
 pub step-by : {k : Section} {i : ℕ} {w w′ : List ℕ} → ChangesOnly k i w w′ → OfNoRegion k → (number sections.kinds ≡ number k → ⊥)
-    → (number sections.cases ≡ number k → ⊥) → i < 7
+    → (number sections.cases ≡ number k → ⊥) → i < bundle-row-size
     → (g : Graph) (r : ℕ) → PreservesMade g w w′ → SelectStep g r w w′
 step-by changes none d e few g r made-stays =
     let same = changes .others cases e (omega arith) in
@@ -120,7 +120,7 @@ states-of-step {w} x d =
 
 -- ---- The cases stay shown.
 module _ {g : Graph} {r : ℕ} {w w′ : List ℕ} (x : SelectStep g r w w′) where
-  field-same : (j i : ℕ) → i < 10 → (i ≡ 2 → ⊥) → case-word w′ j i ≡ case-word w j i
+  field-same : (j i : ℕ) → i < case-row-size → (i ≡ case-body-field → ⊥) → case-word w′ j i ≡ case-word w j i
   field-same j i h d = x .case-words j i h d
 
   case-stays : {j : ℕ} {c : MaybeClaimedRegion} → ShowsCase g w r j c → ShowsCase g w′ r j c

@@ -17,8 +17,8 @@ enum-told c = search needs
 enum-known-h : tie.Need-enum-known-h
 enum-known-h c = search needs
 
-emit-requires : tie.Need-emit-requires
-emit-requires c κs = search needs
+emit-bundles-requires : tie.Need-emit-bundles-requires
+emit-bundles-requires c κs = search needs
 
 returns-2 : tie.Need-returns-2
 returns-2 c = if-full _ _ _ _ _ (not-false _ (c .before .before .before .before .if1 .left)) (c .before .before .define-select .ensures)
@@ -30,7 +30,7 @@ returns-3 c =
     let at-define-select = at-h .before .before in
     let at-if = at-define-select .before .before in
     if-made _ _ _ _ _ (not-false _ (at-if .if1 .left))
-    (at-define-select .define-select .ensures) (at-h .h .given .1) (c .emit .ensures)
+    (at-define-select .define-select .ensures) (at-h .h .given .1) (c .emit-bundles .ensures)
 
 pub select-if-spec : {M : Type 1} → statement M
 select-if-spec =
@@ -40,6 +40,6 @@ select-if-spec =
     define-select-requires
     enum-told
     enum-known-h
-    emit-requires
+    emit-bundles-requires
     returns-2
     returns-3)

@@ -30,7 +30,7 @@ use Rattle.cfg_select_nodes.specs.Selects.{select-added}
 use Rattle.cfg_select_nodes.specs.Selects.{SelectDefined, regions-full, scrutinee-full, node-full, select-defined}
 use Rattle.cfg_emits.specs.laws.paths.EmitsLaws.{front-output}
 use Rattle.state_words.specs.Rows.{bundle-count, bundle-count-at, bundle-row-at, bundle-target, case-body-at, case-set-length}
-use Rattle.state_words.specs.Rows.{case-set-start}
+use Rattle.state_words.specs.Rows.{case-set-start, no-bundle-word}
 use Rattle.state_words.specs.Rows.{spare-slot}
 
 -- ---- Cases rewritten, their targets, and what is planned for them.
@@ -40,7 +40,7 @@ front-cases g l = front-turned (λ m. m) (λ m j. rewrite-case g m j) (λ m j. f
 
 front-summary : (l : List ℕ) (p : ℕ) → SameKinds l (summarize-bundle l p)
 unfolding summarize-bundle
-front-summary l p = go (eqb q 65535)
+front-summary l p = go (eqb q no-bundle-word)
   where
     n : ℕ
     n = word l set-lengths spare-slot
@@ -52,7 +52,7 @@ front-summary l p = go (eqb q 65535)
     go true =
         let xs = bundle-target l p ∷ bundle-count l p ∷ 1 ∷ [] in
         let at = bundle-row-at (bundle-at (word l set-starts spare-slot) n) in
-        kinds-then (kinds-run l bundles (omega arith) at xs) (kinds-stored (stored-all l bundles at xs) set-lengths (omega arith) 32
+        kinds-then (kinds-run l bundles (omega arith) at xs) (kinds-stored (stored-all l bundles at xs) set-lengths (omega arith) spare-slot
         (longer n 1))
     go false = kinds-stored l bundles (omega arith) (bundle-count-at q) (edges-word (bundle-count l q + bundle-count l p))
 
@@ -66,7 +66,7 @@ pub front-targets : (l : List ℕ) → SameKinds l (deferred-targets l)
 unfolding deferred-targets
 front-targets l =
     let m = stored l set-lengths spare-slot 0 in
-    kinds-then (kinds-stored l set-lengths (omega arith) 32 0) (front-turned (λ m. m) summarize-case front-summaries (case-total m) m 0)
+    kinds-then (kinds-stored l set-lengths (omega arith) spare-slot 0) (front-turned (λ m. m) summarize-case front-summaries (case-total m) m 0)
 
 pub front-plans : (g : Graph) (l : List ℕ) → SameKinds l (plan-bundles g l .words)
 unfolding plan-bundles

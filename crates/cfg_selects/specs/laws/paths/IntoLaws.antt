@@ -65,7 +65,7 @@ module _ (r shape : ℕ) (x : Scrutinee) (l : List ℕ) {some merged needed : Bo
       → OfRecord l (λ g. StructurizesSelect g r shape x l l′ Done)
   select-all e p g s = structurized (rw e at (step-by-step g s)) p
 
-pub spare-by : (l : List ℕ) (r : ℕ) {n : ℕ} {l₁ l₂ : List ℕ} → n ≡ word l set-lengths spare-slot → l₁ ≡ swapped l r 32
+pub spare-by : (l : List ℕ) (r : ℕ) {n : ℕ} {l₁ l₂ : List ℕ} → n ≡ word l set-lengths spare-slot → l₁ ≡ swapped l r spare-slot
     → l₂ ≡ stored l₁ set-lengths r n → l₂ ≡ spare-taken l r
 spare-by l r a b c = c ∙ rw (b, a)
 

@@ -23,6 +23,7 @@ use Rattle.cfg_merging.specs.laws.shown.RewritingShown.{cases-after, case-found
 use Rattle.cfg_merging.specs.laws.shown.TargetsShown.{edges-of-cases, edges-of-set}
 use Rattle.cfg_selects.specs.Into.{set-aside}
 use Rattle.state_words.specs.Rows.{case-input, case-nothing, case-set-length, case-set-start, case-word, kind-claimed, region-kind}
+use Rattle.state_words.specs.Rows.{case-row-size, spare-slot}
 
 module _ {g : Graph} (few : length (g .regions) ≤ 32) {r : ℕ} (here : r < length (g .regions)) {w : List ℕ} (room : used ≤ length w)
     (slots : Slots (length (g .regions)) w) {cs : List MaybeClaimedRegion} (shown : ShowsCases g w r cs) (j : ℕ)
@@ -49,7 +50,7 @@ module _ {g : Graph} (few : length (g .regions) ≤ 32) {r : ℕ} (here : r < le
   other-case k p h e =
       let z : case-set-length (set-aside w j) k ≡ 0 = ap (λ i. case-set-length (set-aside w j) i) e ∙ none-left in omega arith
 
-  pub field : (k i : ℕ) → (k ≡ j → ⊥) → i < 10 → case-word (set-aside w j) k i ≡ case-word w k i
+  pub field : (k i : ℕ) → (k ≡ j → ⊥) → i < case-row-size → case-word (set-aside w j) k i ≡ case-word w k i
   field k i d h = other-row one k d i h
 
   pub aside-shown : ShowsCases g (set-aside w j) r (set cs j no-case)
@@ -69,7 +70,7 @@ module _ {g : Graph} (few : length (g .regions) ≤ 32) {r : ℕ} (here : r < le
         not-spare = λ k p q a b c e.
             let x = other-case k p b in
             shown .not-spare k p q (omega arith) (rw (field k 5 x (omega arith)) at b) c
-            (rw (field k 4 x (omega arith), one .starts 32) at e);
+            (rw (field k 4 x (omega arith), one .starts spare-slot) at e);
       }
 
 -- ---- Where every convergent case is taken out, nothing is deferred.

@@ -50,7 +50,7 @@ use Rattle.cfg_selects.specs.laws.shown.Aside.{aside-shown, none-left, o
 use Rattle.cfg_selects.specs.laws.shown.Structurized.{Structured, structurized-shown}
 use Rattle.state_words.specs.Values.{parts}
 use Rattle.state_words.specs.Rows.{case-claimed, case-input-at, case-kind, case-nothing, case-origin, case-row-at, case-set-start, cases-at}
-use Rattle.state_words.specs.Rows.{cells-at, kind-claimed, kind-ready, largest, most-cells, region-kind, spare-slot}
+use Rattle.state_words.specs.Rows.{cells-at, kind-claimed, kind-ready, largest, most-cells, region-kind, spare-slot, slot-count}
 
 -- ---- The spare slot's set becomes region r's.
 record SpareTaken (g : Graph) (r : ℕ) (w w′ : List ℕ) (x : Body) (s : NestState) : Type 0 where
@@ -65,18 +65,18 @@ spare-shown : {g : Graph} → length (g .regions) ≤ 32 → {r : ℕ} → r < l
     → ShowsSet g w (word w set-starts spare-slot) (word w set-lengths spare-slot) (x .deferred-edges)
     → SpareTaken g r w (spare-taken w r) x s
 spare-shown {g} few {r} here {w} state unready {x} nodes set =
-    let r-33 : r < 33 = omega arith in
-    let at : 32 < 33 = omega arith in
+    let r-slot : r < slot-count = omega arith in
+    let at : spare-slot < slot-count = omega arith in
     let room = state .tables .size in
     let n = word w set-lengths spare-slot in
-    let w₁ = swapped w r 32 in
-    let only = swapped-only w room r 32 r-33 at in
+    let w₁ = swapped w r spare-slot in
+    let only = swapped-only w room r spare-slot r-slot at in
     let made-stays₁ = only-preserves only g in
-    let state₁ = only-state only (swapped-slots w room r 32 r-33 at (omega arith) (omega arith) (state .slots))
-    (λ q k e. swapped-kept w room r 32 r-33 at q (λ f. unready (ap (λ b. region-kind w b) (sym f) ∙ e)) (omega arith)) state in
+    let state₁ = only-state only (swapped-slots w room r spare-slot r-slot at (omega arith) (omega arith) (state .slots))
+    (λ q k e. swapped-kept w room r spare-slot r-slot at q (λ f. unready (ap (λ b. region-kind w b) (sym f) ∙ e)) (omega arith)) state in
     let kind₁ : region-kind w₁ r ≡ kind-ready → ⊥ = λ e. unready (sym (only-word-same only kinds (omega arith) r) ∙ e) in
     let set₁ : ShowsSet g w₁ (word w₁ set-starts r) n (x .deferred-edges) =
-    rw (swapped-first w room r 32 r-33 at) (set-stays made-stays₁ (λ i k. swapped-bundle w room r 32 r-33 at _) set) in
+    rw (swapped-first w room r spare-slot r-slot at) (set-stays made-stays₁ (λ i k. swapped-bundle w room r spare-slot r-slot at _) set) in
     let c = word-concerns g w₁ set-lengths (omega arith) r n in
     let handle : word (stored w₁ set-lengths r n) children r ≡ word w children r =
     word-other w₁ set-lengths r n children (omega arith) r ∙ only-word-same only children (omega arith) r in
@@ -84,10 +84,10 @@ spare-shown {g} few {r} here {w} state unready {x} nodes set =
       state = state-stays (c .made-stays) (concerns-states c few kind₁) (c .tables) state₁;
       body = record {
         nodes = rw handle (c .made-stays .nodes-stay (made-stays₁ .nodes-stay nodes));
-        set = length-set-to g w₁ (state₁ .tables .size) r r-33 set₁;
+        set = length-set-to g w₁ (state₁ .tables .size) r r-slot set₁;
       };
       made-stays = preserves-then made-stays₁ (c .made-stays);
-      kept = λ q k d. kept-then (swapped-kept w room r 32 r-33 at q d (omega arith)) (c .others q (omega arith) d);
+      kept = λ q k d. kept-then (swapped-kept w room r spare-slot r-slot at q d (omega arith)) (c .others q (omega arith) d);
       same-total = c .same-head cells-at ∙ only .totals cells-at (omega arith);
     }
 
@@ -265,7 +265,7 @@ module _ {g : Graph} (valid : Valid g) {r : ℕ} (below : r < length (g .regions
                 | yes f ↦ shown .apart k j i p f inside (omega arith) h (omega arith)
                 | no f ↦ shown .apart j k p i (omega arith) in-list h (omega arith) (omega arith)
               ])
-              (λ i a e. let at = same-starts 32 in shown .not-spare j p i inside h a (omega arith)));
+              (λ i a e. let at = same-starts spare-slot in shown .not-spare j p i inside h a (omega arith)));
         }
 
     followed : {w₁ w′ : List ℕ} {z : Body} {s₁ : NestState} → Structured g r rest aside w₁ z s₁

@@ -60,7 +60,8 @@ use Rattle.cfg_emits.specs.laws.shown.PlansShown.{plan-shown, shared-set}
 use Rattle.cfg_select_nodes.specs.laws.shown.Replaced.{replaced-shown}
 use Rattle.cfg_select_nodes.specs.laws.shown.RowsKept.{row-kept}
 use Rattle.state_words.specs.Rows.{bundle-target-at, case-claimed, case-kind, case-origin, case-set-length, case-set-start, case-word}
-use Rattle.state_words.specs.Rows.{case-word-at, cells-at, largest, most-cells, region-kind, returned-at, spare-slot, types-at}
+use Rattle.state_words.specs.Rows.{case-word-at, cells-at, largest, most-cells, region-kind, returned-at, spare-slot, types-at, slot-size}
+use Rattle.state_words.specs.Rows.{twice-at, case-row-size, case-body-field}
 
 -- ---- A look-up of the cases leaves what the select's own cases have of them.
 same-regions : (s₀ : NestState) (cs : List MaybeClaimedRegion) (s : NestState) → case-regions (cases-after s₀ cs) s ≡ case-regions cs s
@@ -119,7 +120,7 @@ module _ {g : Graph} (few : length (g .regions) ≤ 32) (small : SmallTypes g) {
           };
           few = few;
           slots = slots-stay (λ q b. step .same-starts q) (here .slots);
-          spare = step .same-starts 32 ∙ here .spare;
+          spare = step .same-starts spare-slot ∙ here .spare;
         }
 
     plan-then : ShowsPlan g (cases-after s₀ cs) l base ps
@@ -128,7 +129,7 @@ module _ {g : Graph} (few : length (g .regions) ≤ 32) (small : SmallTypes g) {
         let lengths = done₁ .same set-lengths (omega arith) (omega arith) (omega arith) (omega arith) (omega arith) in
         let at : (i : ℕ) → word l bundles i ≡ word w bundles i = λ i. ap (λ m. getD m i 0) same in
         record {
-          size = ap (λ m. getD m 32 0) lengths ∙ plan .size;
+          size = ap (λ m. getD m spare-slot 0) lengths ∙ plan .size;
           few = plan .few;
           rows = λ i b. planned-stays (bundles-same same (base + i)) (plan .rows i b);
           apart = λ i j a b e. plan .apart i j a b (sym (at (bundle-target-at (base + i))) ∙ e ∙ at (bundle-target-at (base + j)));
@@ -174,8 +175,8 @@ module _ {g : Graph} (few : length (g .regions) ≤ 32) (small : SmallTypes g) {
       → ShowsMade (SelectChosen g r base parent (length cs) (length ps) w w′) a (select-if needed kind y cs ps s)
   unfolding select-if
   chosen none (not-needed e p) =
-      let a = here .slots .starts 32 (omega arith) in
-      let b = here .slots .below 32 (omega arith) in
+      let a = here .slots .starts spare-slot (omega arith) in
+      let b = here .slots .below spare-slot (omega arith) in
       let c = here .spare in
       rw (e, p) (shows-made {a = region-body ⟨⟩ (map shared-bundle ps)} {s = s} (record {
         tables = tables;
@@ -201,13 +202,13 @@ pub record Prepared (g : Graph) (r : ℕ) (cs : List MaybeClaimedRegion) (s : Ne
     pub same : (k : Section) → (number k ≡ number sections.head → ⊥) → (number k ≡ number sections.set-lengths → ⊥)
         → (number k ≡ number sections.cases → ⊥) → (number k ≡ number sections.bundles → ⊥)
         → section w′ k ≡ section w k
-    pub totals : (q : ℕ) → (q ≡ 6 → ⊥) → word w′ head q ≡ word w head q
+    pub totals : (q : ℕ) → (q ≡ twice-at → ⊥) → word w′ head q ≡ word w head q
     pub kept : (q : ℕ) → q < length (g .regions) → (q ≡ r → ⊥)
         → ((j : ℕ) → j < length cs → case-kind w j ≡ case-claimed → q ≡ case-origin w j → ⊥) → KeptRegion w w′ q
     pub outside : (p : ℕ) → ((j i : ℕ) → j < length cs → i < case-set-length w j → p ≡ case-set-start w j + i → ⊥)
-        → ((i : ℕ) → i < 33 → p ≡ word w set-starts spare-slot + i → ⊥) → SameBundle w w′ p
+        → ((i : ℕ) → i < slot-size → p ≡ word w set-starts spare-slot + i → ⊥) → SameBundle w w′ p
     -- The row of a case that is not claimed and defers nothing.
-    pub rows : (j : ℕ) → (case-kind w j ≡ case-claimed → ⊥) → case-set-length w j ≡ 0 → (q : ℕ) → q < 10
+    pub rows : (j : ℕ) → (case-kind w j ≡ case-claimed → ⊥) → case-set-length w j ≡ 0 → (q : ℕ) → q < case-row-size
         → case-word w′ j q ≡ case-word w j q
 
 module _ {g : Graph} (valid : Valid g) {r : ℕ} (below : r < length (g .regions)) {w : List ℕ} {s : NestState} (state : ShowsState g w s)
@@ -223,12 +224,12 @@ module _ {g : Graph} (valid : Valid g) {r : ℕ} (below : r < length (g .regions
       let b = deferred-targets-shown g valid w₁ r (state-after s cs) (cases-after s cs) (a .state) (a .cases-shown) bound in
       let w₂ = with-targets g w in
       let first : word w₁ set-starts spare-slot ≡ word w set-starts spare-slot =
-      ap (λ l. getD l 32 0) (a .stays .others set-starts (omega arith) (omega arith) (omega arith)) in
+      ap (λ l. getD l spare-slot 0) (a .stays .others set-starts (omega arith) (omega arith) (omega arith)) in
       let second : word w₂ set-starts spare-slot ≡ word w₁ set-starts spare-slot = spare-there (b .spare) set-starts (omega arith)
-      (omega arith) 32 in
+      (omega arith) spare-slot in
       let rows = rw (← second) at (b .rows) in
       let c = plan-bundles-shown g valid w₂ r (state-after s cs) (cases-after s cs) (b .state) (b .cases-shown) rows in
-      let third = spare-there (c .spare) set-starts (omega arith) (omega arith) 32 in
+      let third = spare-there (c .spare) set-starts (omega arith) (omega arith) spare-slot in
       record {
         state = c .state;
         shown = c .cases-shown;
@@ -261,9 +262,9 @@ pub record Structured (g : Graph) (r : ℕ) (cs : List MaybeClaimedRegion) (w w�
   pub kept : (q : ℕ) → q < length (g .regions) → (q ≡ r → ⊥)
       → ((j : ℕ) → j < length cs → case-kind w j ≡ case-claimed → q ≡ case-origin w j → ⊥) → KeptRegion w w′ q
   pub outside : (p : ℕ) → ((j i : ℕ) → j < length cs → i < case-set-length w j → p ≡ case-set-start w j + i → ⊥)
-      → ((i : ℕ) → i < 33 → p ≡ word w set-starts spare-slot + i → ⊥) → SameBundle w w′ p
+      → ((i : ℕ) → i < slot-size → p ≡ word w set-starts spare-slot + i → ⊥) → SameBundle w w′ p
   -- The row of a case that is not claimed and defers nothing, but for its region.
-  pub rows : (j : ℕ) → (case-kind w j ≡ case-claimed → ⊥) → case-set-length w j ≡ 0 → (q : ℕ) → q < 10 → (q ≡ 2 → ⊥)
+  pub rows : (j : ℕ) → (case-kind w j ≡ case-claimed → ⊥) → case-set-length w j ≡ 0 → (q : ℕ) → q < case-row-size → (q ≡ case-body-field → ⊥)
       → case-word w′ j q ≡ case-word w j q
   pub total : word w′ head cells-at ≤ word w head cells-at + (length cs + 1)
 
@@ -331,9 +332,9 @@ module _ {g : Graph} (valid : Valid g) {r : ℕ} (below : r < length (g .regions
       kind y
       cs ps (state-after s cs)) e in
       let stays = states-of-step step (λ h. unready .parent (sym (same-kinds r) ∙ h)) in
-      let at : word (all-replaced w₁ (case-total w₁) 0) set-starts spare-slot ≡ base = step .same-starts 32 ∙ p .spare-at in
+      let at : word (all-replaced w₁ (case-total w₁) 0) set-starts spare-slot ≡ base = step .same-starts spare-slot ∙ p .spare-at in
       let rows : word (all-replaced w₁ (case-total w₁) 0) set-lengths spare-slot ≡ length ps =
-      ap (λ l. getD l 32 0) (o .changes .others set-lengths (omega arith) (omega arith) ∙ c .same-lengths) ∙ p .plan .size in
+      ap (λ l. getD l spare-slot 0) (o .changes .others set-lengths (omega arith) (omega arith) ∙ c .same-lengths) ∙ p .plan .size in
       let counted = o .changes .totals cells-at (omega arith) in
       let before-it = p .totals cells-at (omega arith) in
       let more = c .total in
@@ -348,7 +349,7 @@ module _ {g : Graph} (valid : Valid g) {r : ℕ} (below : r < length (g .regions
         same-starts = λ q. step .same-starts q ∙ same-starts q;
         kept = λ q h d f. kept-then (p .kept q h d f) (step .others q h d);
         outside = λ q d f. same-bundle-then (p .outside q d f)
-            (step .bundles-kept q (λ i h u. f i h (sym u ∙ ap (λ n. n + i) (same-starts 32))));
+            (step .bundles-kept q (λ i h u. f i h (sym u ∙ ap (λ n. n + i) (same-starts spare-slot))));
         rows = λ j d f q h i. step .case-words j q h i ∙ p .rows j d f q h;
         total = omega arith;
       }))

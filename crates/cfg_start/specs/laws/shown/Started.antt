@@ -35,7 +35,7 @@ use Rattle.cfg_start.specs.InitialState.{started}
 use Rattle.cfg_start.specs.InitialState.{types-stored}
 use Rattle.cfg_start.specs.laws.paths.InitialStateLaws.{emptied-front}
 use Rattle.state_words.specs.Rows.{cells-at, entries-at, entry-none, kind-not-begun, region-kind, regions-at, returned-at, spare-slot}
-use Rattle.state_words.specs.Rows.{types-at}
+use Rattle.state_words.specs.Rows.{types-at, slot-size, cases-at}
 
 -- ---- How many blocks there are: no sum is as large as a word.
 module _ {g : Graph} (valid : Valid g) where
@@ -157,7 +157,7 @@ module _ (g : Graph) (w : List ℕ) (room : used ≤ length w) where
       ap (λ p. getD p r 0) (behind-slots kinds (omega arith) (omega arith))
       ∙ fill-there kinds (λ r. r) (λ r. 0) (λ a b c e. omega arith) n 0 l₁ (omega arith) r (omega arith) (omega arith) below
 
-  own-slot : n ≤ 32 → (a : ℕ) → HasSlot n a → word (started g w) set-starts a ≡ 33 * a
+  own-slot : n ≤ 32 → (a : ℕ) → HasSlot n a → word (started g w) set-starts a ≡ slot-size * a
   own-slot many a h =
       let len = length₂ in
       let len′ = length₂′ in
@@ -167,10 +167,10 @@ module _ (g : Graph) (w : List ℕ) (room : used ≤ length w) where
             ∙ fill-there set-starts (λ a. a) slot (λ a b c e. omega arith) n 0 l₂ (omega arith) a (omega arith) (omega arith) (omega arith)
             ∙ slot-in a (h .below)
         | no b ↦ (let e : a ≡ 32 = h .of-region (omega arith) in
-            rw e (word-there l₂′ set-starts spare-slot (slot 32) (omega arith) (omega arith) ∙ slot-in 32 (omega arith)))
+            rw e (word-there l₂′ set-starts spare-slot (slot 32) (omega arith) (omega arith) ∙ slot-in spare-slot (omega arith)))
       ]
 
-  first-words : (q : ℕ) → q < 7 → word (started g w) head q ≡ getD (totals g n) q 0
+  first-words : (q : ℕ) → q < cases-at → word (started g w) head q ≡ getD (totals g n) q 0
   first-words q h =
       let len = length₃ in
       let e : q ≡ 0 + q = omega arith in

@@ -7,8 +7,8 @@ use Rattle.reading.specs.laws.AnswerSteps.{step-read, step-refused, refu
 use Rattle.reading.proofs.terminators.edges.Statement.{statement}
 use Rattle.reading.proofs.terminators.edges.Tie as tie
 
-span-requires : tie.Need-span-requires
-span-requires c κs = search needs
+tells-length-requires : tie.Need-tells-length-requires
+tells-length-requires c κs = search needs
 
 words-requires : tie.Need-words-requires
 words-requires c κs = search needs
@@ -22,8 +22,8 @@ enum-known-e c = search needs
 distinct-requires : tie.Need-distinct-requires
 distinct-requires c κs =
     let at-words = c .before .before .before in
-    let at-span-arg = at-words .before .before in
-    let at-args = at-span-arg .before in
+    let at-tells-length-arg = at-words .before .before in
+    let at-args = at-tells-length-arg .before in
     λ j l.
     let a = step-read _ _ _ refl (at-words .words .ensures) (c .before .e .given .1) in
     omega (
@@ -32,7 +32,7 @@ distinct-requires c κs =
           (at-args .args .w .now)
           (at-args .args .c .end)
           (at-args .args .c .at) (a .is) j l .1,
-      at-span-arg .span-arg .given,
+      at-tells-length-arg .tells-length-arg .given,
     )
 
 passes-requires : tie.Need-passes-requires
@@ -56,7 +56,7 @@ pub edges-spec : {M : Type 1} → statement M
 edges-spec =
     tie.close
     (tie.spec
-    span-requires
+    tells-length-requires
     words-requires
     enum-known-m
     enum-known-e

@@ -15,8 +15,8 @@ Inv-loop w₀ at places b₀ w b = (b ≤ 8) × Row w₀ w at b (λ k. getD plac
 abbrev μ-loop : tie.MeasureT-loop
 μ-loop w₀ at places b₀ w b = 8 - b
 
-span-requires : tie.Need-span-requires Inv-loop μ-loop
-span-requires c κs = search needs
+tells-length-requires : tie.Need-tells-length-requires Inv-loop μ-loop
+tells-length-requires c κs = search needs
 
 loop-holds : tie.Need-loop-holds Inv-loop μ-loop
 loop-holds c = (omega arith, row-none _ _ _)
@@ -43,7 +43,7 @@ loop-less : tie.Need-loop-less Inv-loop μ-loop
 loop-less c = omega arith
 
 loop-again : tie.Need-loop-again Inv-loop μ-loop
-loop-again c = (omega arith, row-next _ _ _ _ _ (c .before .loop .inv .1) (omega (arith, c .before .before .before .span-arg2 .given)) refl)
+loop-again c = (omega arith, row-next _ _ _ _ _ (c .before .loop .inv .1) (omega (arith, c .before .before .before .tells-length-arg2 .given)) refl)
 
 returns : tie.Need-returns Inv-loop μ-loop
 returns c = row-end _ _ _ _ _ _ (c .before .loop .inv .0) (c .loop-test .left) (c .before .loop .inv .1)
@@ -54,7 +54,7 @@ store-blocks-spec =
     (tie.spec
     Inv-loop
     μ-loop
-    span-requires
+    tells-length-requires
     loop-holds
     mul-w
     array-read-w

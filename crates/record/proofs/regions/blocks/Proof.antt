@@ -17,8 +17,8 @@ Inv-loop w n places₀ i₀ c₀ places i c = BlocksGoing n (take (c₀ .end) w)
 abbrev μ-loop : tie.MeasureT-loop
 μ-loop w n places₀ i₀ c₀ places i c = n - i
 
-span-requires : tie.Need-span-requires Inv-loop μ-loop
-span-requires c κs = search needs
+tells-length-requires : tie.Need-tells-length-requires Inv-loop μ-loop
+tells-length-requires c κs = search needs
 
 loop-holds : tie.Need-loop-holds Inv-loop μ-loop
 loop-holds c = (blocks-start _ _ _, refl)
@@ -44,15 +44,15 @@ cast-places c =
     let at-e = c .before .before in
     let at-block = at-e .before .before in
     let at-loop = at-block .before .before in
-    let at-span-arg = at-loop .before .before in
-    let at-args = at-span-arg .before in
+    let at-tells-length-arg = at-loop .before .before in
+    let at-args = at-tells-length-arg .before in
     let a = step-read _ _ _ (at-loop .loop .inv .1)
     (at-block .block .ensures) (at-e .e .given .1) in
     omega (
       arith,
       taken-inside (at-args .args .w .now)
           (at-args .args .from .end) (block-inside _ _ (a .is)) .1,
-      at-span-arg .span-arg .given,
+      at-tells-length-arg .tells-length-arg .given,
     )
 
 cast-places-2 : tie.Need-cast-places-2 Inv-loop μ-loop
@@ -88,7 +88,7 @@ blocks-spec =
     (tie.spec
     Inv-loop
     μ-loop
-    span-requires
+    tells-length-requires
     loop-holds
     block-requires
     enum-known-m

@@ -23,21 +23,21 @@ loop-holds c = (sets-start _ (c .region-count .ensures) _ _, omega arith, refl)
 sub-r : tie.Need-sub-r Inv-loop μ-loop
 sub-r c = omega arith
 
-put-given-set-requires : tie.Need-put-given-set-requires Inv-loop μ-loop
-put-given-set-requires c κs = search needs
+put-set-if-left-requires : tie.Need-put-set-if-left-requires Inv-loop μ-loop
+put-set-if-left-requires c κs = search needs
 
 loop-less : tie.Need-loop-less Inv-loop μ-loop
 loop-less c = omega arith
 
 loop-again : tie.Need-loop-again Inv-loop μ-loop
 loop-again c =
-    let at-put-given-set = c .before .before in
-    let at-loop-test = at-put-given-set .before .before in
+    let at-put-set-if-left = c .before .before in
+    let at-loop-test = at-put-set-if-left .before .before in
     let at-loop = at-loop-test .before in
     let at-region-count = at-loop .before in (
       sets-turn _ (at-region-count .region-count .ensures) _
           (at-loop-test .loop-test .taken) (at-loop .loop .inv .1)
-          (at-loop .loop .inv .0) (at-put-given-set .put-given-set .ensures),
+          (at-loop .loop .inv .0) (at-put-set-if-left .put-set-if-left .ensures),
       omega arith,
       search needs,
     )
@@ -57,7 +57,7 @@ put-sets-spec =
     region-count-requires
     loop-holds
     sub-r
-    put-given-set-requires
+    put-set-if-left-requires
     loop-less
     loop-again
     same-length

@@ -23,21 +23,21 @@ loop-holds c = (lines-start _ (c .region-count .ensures) _ _, omega arith, refl)
 sub-r : tie.Need-sub-r Inv-loop μ-loop
 sub-r c = omega arith
 
-put-ready-requires : tie.Need-put-ready-requires Inv-loop μ-loop
-put-ready-requires c κs = search needs
+put-if-ready-requires : tie.Need-put-if-ready-requires Inv-loop μ-loop
+put-if-ready-requires c κs = search needs
 
 loop-less : tie.Need-loop-less Inv-loop μ-loop
 loop-less c = omega arith
 
 loop-again : tie.Need-loop-again Inv-loop μ-loop
 loop-again c =
-    let at-put-ready = c .before .before in
-    let at-loop-test = at-put-ready .before .before in
+    let at-put-if-ready = c .before .before in
+    let at-loop-test = at-put-if-ready .before .before in
     let at-loop = at-loop-test .before in
     let at-region-count = at-loop .before in (
       lines-turn _ (at-region-count .region-count .ensures) _
           (at-loop-test .loop-test .taken) (at-loop .loop .inv .1)
-          (at-loop .loop .inv .0) (at-put-ready .put-ready .ensures),
+          (at-loop .loop .inv .0) (at-put-if-ready .put-if-ready .ensures),
       omega arith,
       search needs,
     )
@@ -57,7 +57,7 @@ put-unclaimed-spec =
     region-count-requires
     loop-holds
     sub-r
-    put-ready-requires
+    put-if-ready-requires
     loop-less
     loop-again
     same-length

@@ -22,8 +22,8 @@ abbrev μ-loop : tie.MeasureT-loop
 target-requires : tie.Need-target-requires Inv-loop μ-loop
 target-requires c κs = search needs
 
-input-count-requires : tie.Need-input-count-requires Inv-loop μ-loop
-input-count-requires c κs = search needs
+target-input-count-requires : tie.Need-target-input-count-requires Inv-loop μ-loop
+target-input-count-requires c κs = search needs
 
 loop-holds : tie.Need-loop-holds Inv-loop μ-loop
 loop-holds c = (λ g s x. run-start _ _ _ _, omega arith, refl)
@@ -66,7 +66,7 @@ returns c =
     let count = turn .before in
     let to = count .before in
     λ g s x e shows. puts-as (puts-then (run-all _ _ _ (end .loop-test .left) (turn .loop .inv .0 g s x)) (counted .put-word .ensures))
-    (inputs-are x shows (to .target .ensures) (count .input-count .ensures))
+    (inputs-are x shows (to .target .ensures) (count .target-input-count .ensures))
 
 pub put-target-inputs-spec : {M : Type 1} → statement M
 put-target-inputs-spec =
@@ -75,7 +75,7 @@ put-target-inputs-spec =
     Inv-loop
     μ-loop
     target-requires
-    input-count-requires
+    target-input-count-requires
     loop-holds
     sub-k
     target-input-requires

@@ -4,8 +4,8 @@ use borrow.Author.Needs.{needs}
 use Rattle.state_words.proofs.sections.get.Statement.{statement}
 use Rattle.state_words.proofs.sections.get.Tie as tie
 
-span-requires : tie.Need-span-requires
-span-requires c κs = search needs
+tells-length-requires : tie.Need-tells-length-requires
+tells-length-requires c κs = search needs
 
 add-result : tie.Need-add-result
 add-result c = search needs
@@ -25,4 +25,4 @@ returns-2 c = sym (read-beyond _ _ _ _ (c .if1 .left))
 pub get-spec : {M : Type 1} → statement M
 get-spec =
     tie.close
-    (tie.spec span-requires add-result mul-result element-copy-out-result returns returns-2)
+    (tie.spec tells-length-requires add-result mul-result element-copy-out-result returns returns-2)

@@ -4,8 +4,8 @@ use borrow.Author.Needs.{needs}
 use Rattle.state_words.proofs.sections.put.Statement.{statement}
 use Rattle.state_words.proofs.sections.put.Tie as tie
 
-span-requires : tie.Need-span-requires
-span-requires c κs = search needs
+tells-length-requires : tie.Need-tells-length-requires
+tells-length-requires c κs = search needs
 
 add-w : tie.Need-add-w
 add-w c = search needs
@@ -23,4 +23,4 @@ returns-2 : tie.Need-returns-2
 returns-2 c = sym (stored-beyond _ _ _ _ _ (c .if1 .left))
 
 pub put-spec : {M : Type 1} → statement M
-put-spec = tie.close (tie.spec span-requires add-w mul-w element-write-w returns returns-2)
+put-spec = tie.close (tie.spec tells-length-requires add-w mul-w element-write-w returns returns-2)

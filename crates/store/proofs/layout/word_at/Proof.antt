@@ -5,8 +5,8 @@ use mathlib.Core.Path.{sym}
 use native.Mathlib.Omega.{arith}
 use lib.ListN.{List·getD-eq-default}
 
-span-requires : tie.Need-span-requires
-span-requires c κs = search needs
+tells-length-requires : tie.Need-tells-length-requires
+tells-length-requires c κs = search needs
 
 mul-result : tie.Need-mul-result
 mul-result c = search needs
@@ -20,8 +20,8 @@ returns c = search needs
 returns-2 : tie.Need-returns-2
 returns-2 c =
     sym (List·getD-eq-default (c .before .before .before .args .w .now) 0 {n = c .before .before .before .args .p}
-    (omega (arith, c .before .before .span-arg .given .0)))
+    (omega (arith, c .before .before .tells-length-arg .given .0)))
 
 pub word-at-spec : {M : Type 1} → statement M
 word-at-spec =
-    tie.close (tie.spec span-requires mul-result element-copy-out-result returns returns-2)
+    tie.close (tie.spec tells-length-requires mul-result element-copy-out-result returns returns-2)

@@ -1,7 +1,7 @@
 use Rattle.nester.specs.laws.NestingRecord.{written-words, written-few}
 use borrow.Author.Needs.{needs}
-use Rattle.nester.proofs.written.Statement.{statement}
-use Rattle.nester.proofs.written.Tie as tie
+use Rattle.nester.proofs.write_or_refuse.Statement.{statement}
+use Rattle.nester.proofs.write_or_refuse.Tie as tie
 
 write-sheet-requires : tie.Need-write-sheet-requires
 write-sheet-requires c κs = search needs
@@ -24,8 +24,8 @@ same-length-2 c = search needs
 returns-2 : tie.Need-returns-2
 returns-2 c = written-few _ _ _ (c .before .before .before .before .write-sheet .ensures) (c .enum-told .given .1)
 
-pub written-spec : {M : Type 1} → statement M
-written-spec =
+pub write-or-refuse-spec : {M : Type 1} → statement M
+write-or-refuse-spec =
     tie.close
     (tie.spec
     write-sheet-requires

@@ -1,8 +1,8 @@
 use borrow.Author.Tests.{eq-eqb, ne-eqb}
 use Rattle.cfg_bundles.specs.EdgesAndCases.{target-type}
 use borrow.Author.Needs.{needs}
-use Rattle.cfg_bundles.proofs.bundles.target_type.Statement.{statement}
-use Rattle.cfg_bundles.proofs.bundles.target_type.Tie as tie
+use Rattle.cfg_bundles.proofs.bundles.target_input_type.Statement.{statement}
+use Rattle.cfg_bundles.proofs.bundles.target_input_type.Tie as tie
 
 returned-type-requires : tie.Need-returned-type-requires
 returned-type-requires c κs = search needs
@@ -18,6 +18,6 @@ returns-2 : tie.Need-returns-2
 unfolding target-type
 returns-2 c g s = rw (ne-eqb _ _ (c .before .if1 .left)) (c .input-type .ensures g s)
 
-pub target-type-spec : {M : Type 1} → statement M
-target-type-spec =
+pub target-input-type-spec : {M : Type 1} → statement M
+target-input-type-spec =
     tie.close (tie.spec returned-type-requires returns input-type-requires returns-2)

@@ -3,8 +3,8 @@ use mathlib.Core.Path.{refl}
 use borrow.Author.Needs.{needs}
 use Rattle.reading.specs.laws.AnswerSteps.{word-read, word-refused, step-read, step-refused, refuse-word, give-word}
 use Rattle.record.specs.laws.RegionsForgotten.{head-count-is, head-stop, head-rest}
-use Rattle.record.proofs.regions.head.Statement.{statement}
-use Rattle.record.proofs.regions.head.Tie as tie
+use Rattle.record.proofs.regions.read_head.Statement.{statement}
+use Rattle.record.proofs.regions.read_head.Tie as tie
 
 within-requires : tie.Need-within-requires
 within-requires c κs = search needs
@@ -44,8 +44,8 @@ returns-3 c =
     let b = step-read _ _ _ (a .same) (c .before .before .before .after-count .ensures) (c .before .e .given .1) in
     give-word _ _ _ (b .same) (head-rest _ _ (a .is) (b .is))
 
-pub head-spec : {M : Type 1} → statement M
-head-spec =
+pub read-head-spec : {M : Type 1} → statement M
+read-head-spec =
     tie.close
     (tie.spec
     within-requires

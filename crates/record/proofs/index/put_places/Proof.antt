@@ -2,11 +2,11 @@
 use native.Mathlib.Omega.{arith}
 use Rattle.record.specs.laws.IndexSteps.{store-row}
 use borrow.Author.Needs.{needs}
-use Rattle.record.proofs.index.store.Statement.{statement}
-use Rattle.record.proofs.index.store.Tie as tie
+use Rattle.record.proofs.index.put_places.Statement.{statement}
+use Rattle.record.proofs.index.put_places.Tie as tie
 
-span-requires : tie.Need-span-requires
-span-requires c κs = search needs
+tells-length-requires : tie.Need-tells-length-requires
+tells-length-requires c κs = search needs
 
 mul-at : tie.Need-mul-at
 mul-at c = search needs
@@ -50,13 +50,13 @@ store-blocks-requires c κs = search needs
 returns : tie.Need-returns
 returns c =
     let start = c .before .before .before .before .before .before in
-    store-row _ _ _ _ _ (start .pre) (omega (arith, c .before .before .before .before .span-arg2 .given)) (c .store-blocks .ensures)
+    store-row _ _ _ _ _ (start .pre) (omega (arith, c .before .before .before .before .tells-length-arg2 .given)) (c .store-blocks .ensures)
 
-pub store-spec : {M : Type 1} → statement M
-store-spec =
+pub put-places-spec : {M : Type 1} → statement M
+put-places-spec =
     tie.close
     (tie.spec
-    span-requires
+    tells-length-requires
     mul-at
     add-at
     add-w

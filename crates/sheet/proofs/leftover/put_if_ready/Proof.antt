@@ -1,7 +1,7 @@
 use Rattle.sheet.specs.laws.RegionsLaws.{ready-put, ready-not-put}
 use borrow.Author.Needs.{needs}
-use Rattle.sheet.proofs.leftover.put_ready.Statement.{statement}
-use Rattle.sheet.proofs.leftover.put_ready.Tie as tie
+use Rattle.sheet.proofs.leftover.put_if_ready.Statement.{statement}
+use Rattle.sheet.proofs.leftover.put_if_ready.Tie as tie
 
 region-state-requires : tie.Need-region-state-requires
 region-state-requires c κs = search needs
@@ -19,6 +19,6 @@ returns c = ready-put _ _ (c .before .before .before .before .before .region-sta
 returns-2 : tie.Need-returns-2
 returns-2 c = ready-not-put _ _ (c .before .region-state .ensures) _ _ (c .if1 .left)
 
-pub put-ready-spec : {M : Type 1} → statement M
-put-ready-spec =
+pub put-if-ready-spec : {M : Type 1} → statement M
+put-if-ready-spec =
     tie.close (tie.spec region-state-requires put-piece-requires same-length returns returns-2)

@@ -1,8 +1,8 @@
 use Rattle.sheet.specs.laws.RegionsLaws.{ready-set-put, no-given-set}
 use Rattle.sheet.specs.laws.RegionsLaws.{entry-set-put}
 use borrow.Author.Needs.{needs}
-use Rattle.sheet.proofs.leftover.put_given_set.Statement.{statement}
-use Rattle.sheet.proofs.leftover.put_given_set.Tie as tie
+use Rattle.sheet.proofs.leftover.put_set_if_left.Statement.{statement}
+use Rattle.sheet.proofs.leftover.put_set_if_left.Tie as tie
 
 entry-requires : tie.Need-entry-requires
 entry-requires c κs = search needs
@@ -41,8 +41,8 @@ returns-3 : tie.Need-returns-3
 returns-3 c = no-given-set _ _ (c .before .before .before .entry .ensures) (c .before .before .if1 .left)
     (c .before .region-state .ensures) _ _ (c .if2 .left)
 
-pub put-given-set-spec : {M : Type 1} → statement M
-put-given-set-spec =
+pub put-set-if-left-spec : {M : Type 1} → statement M
+put-set-if-left-spec =
     tie.close
     (tie.spec
     entry-requires

@@ -1,7 +1,7 @@
 use Rattle.cfg_bundles.specs.laws.paths.Paths.{split-by}
 use borrow.Author.Needs.{needs}
-use Rattle.cfg_cases.proofs.cases.fill_split.Statement.{statement}
-use Rattle.cfg_cases.proofs.cases.fill_split.Tie as tie
+use Rattle.cfg_cases.proofs.cases.fill_claimed_and_others.Statement.{statement}
+use Rattle.cfg_cases.proofs.cases.fill_claimed_and_others.Tie as tie
 
 set-start-requires : tie.Need-set-start-requires
 set-start-requires c κs = search needs
@@ -55,8 +55,8 @@ returns c g s =
     (at-set-case-count .set-case-count .ensures)
     (at-put-case .put-case .ensures) (c .before .unclaimed-case .ensures) (c .set-case .ensures)
 
-pub fill-split-spec : {M : Type 1} → statement M
-fill-split-spec =
+pub fill-claimed-and-others-spec : {M : Type 1} → statement M
+fill-claimed-and-others-spec =
     tie.close
     (tie.spec
     set-start-requires

@@ -5,8 +5,8 @@ use Rattle.cfg_select_nodes.specs.laws.paths.TurnsLaws.{begins-by, turned-by, r
 use Rattle.cfg_emits.specs.Emits.{EmitAt}
 use Rattle.cfg_emits.specs.laws.paths.EmitsLaws.{emits-by, bundles-leave}
 use borrow.Author.Needs.{needs}
-use Rattle.cfg_emits.proofs.emit.emit.Statement.{statement}
-use Rattle.cfg_emits.proofs.emit.emit.Tie as tie
+use Rattle.cfg_emits.proofs.emit.emit_bundles.Statement.{statement}
+use Rattle.cfg_emits.proofs.emit.emit_bundles.Tie as tie
 
 abbrev Inv-loop : tie.InvT-loop
 Inv-loop w₀ h start n i₀ w i = (i ≤ n) × GoesOnBy (λ g. EmitAt g h start) n i w₀ w
@@ -71,8 +71,8 @@ returns-2 : tie.Need-returns-2 Inv-loop μ-loop
 returns-2 c = emits-by _ _ (c .before .before .before .before .set-start .ensures) (c .before .before .set-length .ensures)
     (over-by _ _ _ _ _ (c .before .loop .inv .1) (c .loop-test .left))
 
-pub emit-spec : {M : Type 1} → statement M
-emit-spec =
+pub emit-bundles-spec : {M : Type 1} → statement M
+emit-bundles-spec =
     tie.close
     (tie.spec
     Inv-loop

@@ -1,7 +1,7 @@
 use Rattle.nester.specs.laws.NestingRecord.{too-dear, within-figure}
 use borrow.Author.Needs.{needs}
-use Rattle.nester.proofs.formed.Statement.{statement}
-use Rattle.nester.proofs.formed.Tie as tie
+use Rattle.nester.proofs.write_with_figure.Statement.{statement}
+use Rattle.nester.proofs.write_with_figure.Tie as tie
 
 entry-requires : tie.Need-entry-requires
 entry-requires c κs = search needs
@@ -16,35 +16,35 @@ returns : tie.Need-returns
 returns c = too-dear _ _ (c .before .before .before .entry .ensures) (c .before .before .children .ensures)
     (c .before .figure .ensures) _ (c .if1 .taken)
 
-cast-written : tie.Need-cast-written
-cast-written c = search needs
+cast-write-or-refuse : tie.Need-cast-write-or-refuse
+cast-write-or-refuse c = search needs
 
-written-requires : tie.Need-written-requires
-written-requires c κs = search needs
+write-or-refuse-requires : tie.Need-write-or-refuse-requires
+write-or-refuse-requires c κs = search needs
 
 same-length : tie.Need-same-length
 same-length c = search needs
 
 returns-2 : tie.Need-returns-2
 returns-2 c =
-    let at-written = c .before .before in
-    let at-if = at-written .before .before in
+    let at-write-or-refuse = c .before .before in
+    let at-if = at-write-or-refuse .before .before in
     let at-figure = at-if .before in
     let at-children = at-figure .before in
     let at-entry = at-children .before in
     within-figure _ _ (at-entry .entry .ensures)
     (at-children .children .ensures) (at-figure .figure .ensures)
-    (at-if .if1 .left) (at-written .written .ensures)
+    (at-if .if1 .left) (at-write-or-refuse .write-or-refuse .ensures)
 
-pub formed-spec : {M : Type 1} → statement M
-formed-spec =
+pub write-with-figure-spec : {M : Type 1} → statement M
+write-with-figure-spec =
     tie.close
     (tie.spec
     entry-requires
     children-requires
     figure-requires
     returns
-    cast-written
-    written-requires
+    cast-write-or-refuse
+    write-or-refuse-requires
     same-length
     returns-2)

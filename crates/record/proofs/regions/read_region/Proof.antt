@@ -4,8 +4,8 @@ use borrow.Author.Needs.{needs}
 use Rattle.reading.specs.laws.AnswerSteps.{step-read, step-refused}
 use Rattle.record.specs.laws.RegionsForgotten.{region-inputs, region-blocks}
 use Rattle.record.specs.laws.RegionSteps.{region-stop, region-whole}
-use Rattle.record.proofs.regions.region.Statement.{statement}
-use Rattle.record.proofs.regions.region.Tie as tie
+use Rattle.record.proofs.regions.read_region.Statement.{statement}
+use Rattle.record.proofs.regions.read_region.Tie as tie
 
 counted-types-requires : tie.Need-counted-types-requires
 counted-types-requires c κs = search needs
@@ -31,8 +31,8 @@ no-region-requires-2 c κs = search needs
 enum-known-step-2 : tie.Need-enum-known-step-2
 enum-known-step-2 c = search needs
 
-ending-requires : tie.Need-ending-requires
-ending-requires c κs = search needs
+read-ending-requires : tie.Need-read-ending-requires
+read-ending-requires c κs = search needs
 
 returns : tie.Need-returns
 returns c =
@@ -56,10 +56,10 @@ returns-3 c =
     let at-counted-types = at-p .before .before in
     let a = step-read _ _ _ refl (at-counted-types .counted-types .ensures) (at-p .p .given .1) in
     region-whole _ _ (at-counted-blocks .counted-blocks .result) _ a (at-counted-blocks .counted-blocks .ensures)
-    (c .before .before .step2 .given .1) (c .ending .ensures)
+    (c .before .before .step2 .given .1) (c .read-ending .ensures)
 
-pub region-spec : {M : Type 1} → statement M
-region-spec =
+pub read-region-spec : {M : Type 1} → statement M
+read-region-spec =
     tie.close
     (tie.spec
     counted-types-requires
@@ -70,7 +70,7 @@ region-spec =
     enum-known-step
     no-region-requires-2
     enum-known-step-2
-    ending-requires
+    read-ending-requires
     returns
     returns-2
     returns-3)

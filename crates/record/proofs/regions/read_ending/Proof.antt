@@ -8,11 +8,11 @@ use Rattle.meaning.specs.facts.Parts.{taken-inside}
 use Rattle.record.specs.laws.Parts.{within-parts}
 use Rattle.record.specs.laws.RegionsForgotten.{ending-limit, ending-terminator, ending-exits, counted-inside}
 use Rattle.record.specs.laws.RegionSteps.{ending-stop, ending-whole}
-use Rattle.record.proofs.regions.ending.Statement.{statement}
-use Rattle.record.proofs.regions.ending.Tie as tie
+use Rattle.record.proofs.regions.read_ending.Statement.{statement}
+use Rattle.record.proofs.regions.read_ending.Tie as tie
 
-span-requires : tie.Need-span-requires
-span-requires c κs = search needs
+tells-length-requires : tie.Need-tells-length-requires
+tells-length-requires c κs = search needs
 
 within-requires : tie.Need-within-requires
 within-requires c κs = search needs
@@ -54,14 +54,14 @@ cast-t20 : tie.Need-cast-t20
 cast-t20 c =
     let at-p = c .before .before .before .before .before .before .before .before .before .before in
     let at-within = at-p .before .before in
-    let at-span-arg = at-within .before .before in
-    let start = at-span-arg .before in
+    let at-tells-length-arg = at-within .before .before in
+    let start = at-tells-length-arg .before in
     let a = word-read _ _ _ refl (at-within .within .ensures) (at-p .p .given .1) in
     omega (
       arith,
       taken-inside
           (start .args .w .now) (start .args .c .end) (within-parts 1 65535 _ _ (a .is) .inside) .1,
-      at-span-arg .span-arg .given,
+      at-tells-length-arg .tells-length-arg .given,
     )
 
 cast-t21 : tie.Need-cast-t21
@@ -71,8 +71,8 @@ cast-t21 c =
     let at-terminator = at-q .before .before in
     let at-p = at-terminator .before .before in
     let at-within = at-p .before .before in
-    let at-span-arg = at-within .before .before in
-    let start = at-span-arg .before in
+    let at-tells-length-arg = at-within .before .before in
+    let start = at-tells-length-arg .before in
     let a = word-read _ _ _ refl (at-within .within .ensures) (at-p .p .given .1) in
     let b = step-read _ _ _ (a .same) (at-terminator .terminator .ensures) (at-q .q .given .1) in
     let d = step-read _ _ _ (b .same) (at-counted-words .counted-words .ensures) (c .before .before .before .e .given .1) in
@@ -80,7 +80,7 @@ cast-t21 c =
       arith,
       taken-inside
           (start .args .w .now) (start .args .c .end) (counted-inside _ _ 0 32 word (d .is)) .1,
-      at-span-arg .span-arg .given,
+      at-tells-length-arg .tells-length-arg .given,
     )
 
 returns : tie.Need-returns
@@ -122,11 +122,11 @@ returns-4 c =
     let b = step-read _ _ _ (a .same) (at-terminator .terminator .ensures) (at-q .q .given .1) in
     ending-whole _ _ _ a b (step-read _ _ _ (b .same) (at-counted-words .counted-words .ensures) (c .before .before .before .e .given .1))
 
-pub ending-spec : {M : Type 1} → statement M
-ending-spec =
+pub read-ending-spec : {M : Type 1} → statement M
+read-ending-spec =
     tie.close
     (tie.spec
-    span-requires
+    tells-length-requires
     within-requires
     enum-known-m
     no-region-requires

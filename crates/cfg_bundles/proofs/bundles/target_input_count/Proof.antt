@@ -1,8 +1,8 @@
 use borrow.Author.Tests.{eq-eqb, ne-eqb}
 use Rattle.cfg_bundles.specs.EdgesAndCases.{input-count}
 use borrow.Author.Needs.{needs}
-use Rattle.cfg_bundles.proofs.bundles.input_count.Statement.{statement}
-use Rattle.cfg_bundles.proofs.bundles.input_count.Tie as tie
+use Rattle.cfg_bundles.proofs.bundles.target_input_count.Statement.{statement}
+use Rattle.cfg_bundles.proofs.bundles.target_input_count.Tie as tie
 
 head-requires : tie.Need-head-requires
 head-requires c κs = search needs
@@ -18,5 +18,5 @@ returns-2 : tie.Need-returns-2
 unfolding input-count
 returns-2 c g s = rw (ne-eqb _ _ (c .before .if1 .left)) (c .input-count .ensures g s)
 
-pub input-count-spec : {M : Type 1} → statement M
-input-count-spec = tie.close (tie.spec head-requires returns input-count-requires returns-2)
+pub target-input-count-spec : {M : Type 1} → statement M
+target-input-count-spec = tie.close (tie.spec head-requires returns input-count-requires returns-2)
