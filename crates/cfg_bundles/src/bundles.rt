@@ -15,6 +15,7 @@ use state_sets::sets::put_set_length;
 use state_sets::sets::set_bundle;
 use state_sets::sets::set_start;
 use state_sets::sets::set_target_inputs;
+use state_words::bundle_numbers::BundleNumber;
 use state_words::defined::RETURNED;
 use state_words::defined::head;
 use state_words::defined::returned_type;
@@ -45,8 +46,8 @@ pub fn target_input_type(w: &[u16; WORDS], t: u16, k: u16) -> u16
 }
 
 // The Rust's Always: a set of one, whose condition is dropped.
-pub fn condition_in(w: &[u16; WORDS], p: u16, n: u16) -> u16
-    ensures { λ a. ⌜ a ≡ words.«condition-in» (now (w .entry)) p n ⌝ }
+pub fn condition_in(w: &[u16; WORDS], p: BundleNumber, n: u16) -> u16
+    ensures { λ a. ⌜ a ≡ words.«condition-in» (now (w .entry)) (p .0) n ⌝ }
 {
     if n == 1 {
         return TRUE_COND;
@@ -91,8 +92,15 @@ fn returned_inputs(w: &[u16; WORDS], r: u16) -> [u16; 4]
 }
 
 // A bundle with its inputs.
-pub fn put_bundle(w: &mut [u16; WORDS], p: u16, t: u16, n: IncomingEdgeCount, c: u16, vs: &[u16; 4])
-    ensures { λ _. ⌜ now (w .exit) ≡ sections.«stored-all» (now (w .entry)) sections.bundles (rows.«bundle-row-at» p)
+pub fn put_bundle(
+    w: &mut [u16; WORDS],
+    p: BundleNumber,
+    t: u16,
+    n: IncomingEdgeCount,
+    c: u16,
+    vs: &[u16; 4],
+)
+    ensures { λ _. ⌜ now (w .exit) ≡ sections.«stored-all» (now (w .entry)) sections.bundles (rows.«bundle-row-at» (p .0))
         (t ∷ totals.«edges-word» (n .0) ∷ c ∷ now (vs .entry)) ⌝ }
 {
     set_bundle(w, p, t, n, c);
@@ -100,8 +108,8 @@ pub fn put_bundle(w: &mut [u16; WORDS], p: u16, t: u16, n: IncomingEdgeCount, c:
 }
 
 // Region r's edge at place j, as a bundle of one.
-pub fn defer_edge(w: &mut [u16; WORDS], p: u16, r: u16, j: u16)
-    ensures { λ _. ⌜ OfRecord (now (w .entry)) (λ g. now (w .exit) ≡ words.«edge-deferred» g (now (w .entry)) p r j) ⌝ }
+pub fn defer_edge(w: &mut [u16; WORDS], p: BundleNumber, r: u16, j: u16)
+    ensures { λ _. ⌜ OfRecord (now (w .entry)) (λ g. now (w .exit) ≡ words.«edge-deferred» g (now (w .entry)) (p .0) r j) ⌝ }
 {
     let t = fields::target(w, r, j);
     let vs = passed_inputs(w, r, j);

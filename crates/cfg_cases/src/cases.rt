@@ -28,12 +28,13 @@ use state_sets::sets::set_start;
 use state_sets::sets::shift_remove;
 use state_sets::sets::target;
 use state_sets::sets::target_input;
+use state_words::bundle_numbers::BundleNumber;
 use state_words::values::UNDEF;
 use store::WORDS;
 
 // A case that is no claimed region.
-pub fn unclaimed_case(kind: u16, start: u16, length: u16) -> Case
-    ensures { λ a. ⌜ a ≡ words.«unclaimed-case» kind start length ⌝ }
+pub fn unclaimed_case(kind: u16, start: BundleNumber, length: u16) -> Case
+    ensures { λ a. ⌜ a ≡ words.«unclaimed-case» kind (start .0) length ⌝ }
 {
     Case {
         kind,
@@ -83,7 +84,7 @@ fn fill_case(w: &mut [u16; WORDS], r: u16, j: u16)
         set_case(w, j, unclaimed_case(OWN_EDGE, p, 1));
         return;
     }
-    set_case(w, j, unclaimed_case(NOTHING_DEFERRED, 0, 0));
+    set_case(w, j, unclaimed_case(NOTHING_DEFERRED, BundleNumber(0), 0));
 }
 
 // The Rust's target_regions, from what the level holds of them.
@@ -99,8 +100,8 @@ pub fn fill_cases(w: &mut [u16; WORDS], r: u16)
     }
 }
 
-fn given_word(w: &[u16; WORDS], p: u16, k: u16, n: u16) -> u16
-    ensures { λ a. ⌜ a ≡ words.«given-word» (now (w .entry)) p n k ⌝ }
+fn given_word(w: &[u16; WORDS], p: BundleNumber, k: u16, n: u16) -> u16
+    ensures { λ a. ⌜ a ≡ words.«given-word» (now (w .entry)) (p .0) n k ⌝ }
 {
     if k < n {
         return target_input(w, p, k);
@@ -109,8 +110,8 @@ fn given_word(w: &[u16; WORDS], p: u16, k: u16, n: u16) -> u16
 }
 
 // The inputs of the bundle at a place, which goes to a region.
-fn given_inputs(w: &[u16; WORDS], p: u16) -> [u16; 4]
-    ensures { λ a. ⌜ OfRecord (now (w .entry)) (λ g. a ≡ words.«given-inputs» g (now (w .entry)) p) ⌝ }
+fn given_inputs(w: &[u16; WORDS], p: BundleNumber) -> [u16; 4]
+    ensures { λ a. ⌜ OfRecord (now (w .entry)) (λ g. a ≡ words.«given-inputs» g (now (w .entry)) (p .0)) ⌝ }
 {
     let n = fields::input_count(w, target(w, p));
     [

@@ -22,6 +22,7 @@ use state_sets::sets::set_start;
 use state_sets::sets::set_target_input;
 use state_sets::sets::target;
 use state_sets::sets::target_input;
+use state_words::bundle_numbers::BundleNumber;
 use state_words::defined::Defined;
 use state_words::defined::Made;
 use state_words::values::UNDEF;
@@ -29,10 +30,10 @@ use state_words::values::output;
 use state_words::values::undef;
 use store::WORDS;
 
-fn value_in_case(w: &[u16; WORDS], p: u16, k: u16, ty: u16) -> u16
-    ensures { λ a. ⌜ a ≡ words.«value-in-case» (now (w .entry)) p k ty ⌝ }
+fn value_in_case(w: &[u16; WORDS], p: BundleNumber, k: u16, ty: u16) -> u16
+    ensures { λ a. ⌜ a ≡ words.«value-in-case» (now (w .entry)) (p .0) k ty ⌝ }
 {
-    if p == NO_BUNDLE {
+    if p.0 == NO_BUNDLE {
         return undef(ty);
     }
     target_input(w, p, k)
@@ -46,7 +47,8 @@ fn values_in_cases(w: &[u16; WORDS], places: &[u16; 8], k: u16, ty: u16) -> [u16
     let mut vs = [UNDEF; 8];
     let mut j: u16 = 0;
     while j < n {
-        let v = value_in_case(w, places[j as usize], k, ty);
+        let p = places[j as usize];
+        let v = value_in_case(w, BundleNumber(p), k, ty);
         vs[j as usize] = v;
         j += 1;
     }
@@ -54,9 +56,16 @@ fn values_in_cases(w: &[u16; WORDS], places: &[u16; 8], k: u16, ty: u16) -> [u16
 }
 
 // Input k of the bundle at q to target t, where it is to be made: an output of the select.
-fn emit_input(w: &mut [u16; WORDS], node: u16, q: u16, t: u16, places: &[u16; 8], k: u16) -> Made
+fn emit_input(
+    w: &mut [u16; WORDS],
+    node: u16,
+    q: BundleNumber,
+    t: u16,
+    places: &[u16; 8],
+    k: u16,
+) -> Made
     ensures { λ a. ⌜ OfRecord (now (w .entry)) (λ g.
-        words.EmitInput g node q t (now (places .entry)) k (now (w .entry)) (now (w .exit)) a) ⌝ }
+        words.EmitInput g node (q .0) t (now (places .entry)) k (now (w .entry)) (now (w .exit)) a) ⌝ }
 {
     if target_input(w, q, k) != TO_MERGE {
         return Made::Done;
@@ -72,8 +81,9 @@ fn emit_input(w: &mut [u16; WORDS], node: u16, q: u16, t: u16, places: &[u16; 8]
     }
 }
 
-fn emit_inputs(w: &mut [u16; WORDS], node: u16, q: u16, places: &[u16; 8]) -> Made
-    ensures { λ a. ⌜ OfRecord (now (w .entry)) (λ g. words.EmitInputs g node q (now (places .entry)) (now (w .entry)) (now (w .exit)) a) ⌝ }
+fn emit_inputs(w: &mut [u16; WORDS], node: u16, q: BundleNumber, places: &[u16; 8]) -> Made
+    ensures { λ a. ⌜ OfRecord (now (w .entry)) (λ g.
+        words.EmitInputs g node (q .0) (now (places .entry)) (now (w .entry)) (now (w .exit)) a) ⌝ }
 {
     let t = target(w, q);
     let n = target_input_count(w, t);
@@ -94,7 +104,8 @@ fn conditions_in_cases(w: &[u16; WORDS], places: &[u16; 8]) -> [u16; 8]
     let mut parts = [0u16; 8];
     let mut j: u16 = 0;
     while j < n {
-        let c = per_case_condition(w, j, places[j as usize]);
+        let p = places[j as usize];
+        let c = per_case_condition(w, j, BundleNumber(p));
         parts[j as usize] = c;
         j += 1;
     }
@@ -102,8 +113,8 @@ fn conditions_in_cases(w: &[u16; WORDS], places: &[u16; 8]) -> [u16; 8]
 }
 
 // h is the select's cell.
-fn emit_condition(w: &mut [u16; WORDS], h: u16, q: u16, places: &[u16; 8]) -> Made
-    ensures { λ a. ⌜ words.EmitCondition h q (now (places .entry)) (now (w .entry)) (now (w .exit)) a ⌝ }
+fn emit_condition(w: &mut [u16; WORDS], h: u16, q: BundleNumber, places: &[u16; 8]) -> Made
+    ensures { λ a. ⌜ words.EmitCondition h (q .0) (now (places .entry)) (now (w .entry)) (now (w .exit)) a ⌝ }
 {
     if condition(w, q) != TO_DEFINE {
         return Made::Done;
@@ -118,8 +129,8 @@ fn emit_condition(w: &mut [u16; WORDS], h: u16, q: u16, places: &[u16; 8]) -> Ma
     }
 }
 
-fn emit_bundle(w: &mut [u16; WORDS], h: u16, q: u16) -> Made
-    ensures { λ a. ⌜ OfRecord (now (w .entry)) (λ g. words.EmitBundle g h q (now (w .entry)) (now (w .exit)) a) ⌝ }
+fn emit_bundle(w: &mut [u16; WORDS], h: u16, q: BundleNumber) -> Made
+    ensures { λ a. ⌜ OfRecord (now (w .entry)) (λ g. words.EmitBundle g h (q .0) (now (w .entry)) (now (w .exit)) a) ⌝ }
 {
     let places = per_case_deferred(w, target(w, q));
     let node = select_node(w, h);

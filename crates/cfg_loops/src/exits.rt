@@ -10,6 +10,7 @@ use state_sets::sets::set_accumulated_count;
 use state_sets::sets::set_length;
 use state_sets::sets::set_start;
 use state_sets::sets::target;
+use state_words::bundle_numbers::BundleNumber;
 use state_words::edges::ONE;
 use store::WORDS;
 
@@ -27,8 +28,8 @@ fn is_exit_target(w: &[u16; WORDS], r: u16, t: u16) -> bool
     false
 }
 
-fn add_exit_edge(w: &mut [u16; WORDS], r: u16, p: u16)
-    ensures { λ _. ⌜ OfRecord (now (w .entry)) (λ g. now (w .exit) ≡ words.«exit-added» g r p (now (w .entry))) ⌝ }
+fn add_exit_edge(w: &mut [u16; WORDS], r: u16, p: BundleNumber)
+    ensures { λ _. ⌜ OfRecord (now (w .entry)) (λ g. now (w .exit) ≡ words.«exit-added» g r (p .0) (now (w .entry))) ⌝ }
 {
     if is_exit_target(w, r, target(w, p)) {
         let n = accumulated_count(w, p);

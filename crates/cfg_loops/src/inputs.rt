@@ -6,6 +6,7 @@ use cfg_lookups::look_up::look_up_noting;
 use state_nodes::cells::Cell;
 use state_nodes::cells::add_cell;
 use state_sets::sets::target_input;
+use state_words::bundle_numbers::BundleNumber;
 use state_words::values::held;
 use state_words::values::input;
 use store::WORDS;
@@ -17,8 +18,8 @@ pub struct LoopInputs {
     pub entry: u16,
 }
 
-pub fn backedge_inputs(w: &[u16; WORDS], p: u16) -> [u16; 4]
-    ensures { λ a. ⌜ a ≡ words.«backedge-inputs» (now (w .entry)) p ⌝ }
+pub fn backedge_inputs(w: &[u16; WORDS], p: BundleNumber) -> [u16; 4]
+    ensures { λ a. ⌜ a ≡ words.«backedge-inputs» (now (w .entry)) (p .0) ⌝ }
 {
     [
         target_input(w, p, 0),

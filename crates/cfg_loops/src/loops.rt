@@ -15,6 +15,7 @@ use state_regions::regions::set_children;
 use state_regions::regions::set_structured_body;
 use state_sets::sets::set_length;
 use state_sets::sets::split_out_target;
+use state_words::bundle_numbers::BundleNumber;
 use state_words::defined::Defined;
 use state_words::defined::Made;
 use state_words::defined::define_node;
@@ -63,8 +64,8 @@ fn enter_inputs(w: &mut [u16; WORDS], r: u16, wrapper: u16, n: u16, vs: &mut [u1
 }
 
 // The back edge stands at p in region r's set.
-pub fn structurize_loop(w: &mut [u16; WORDS], r: u16, p: u16) -> Made
-    ensures { λ a. ⌜ words.StructurizesLoop r p (now (w .entry)) (now (w .exit)) a ⌝ }
+pub fn structurize_loop(w: &mut [u16; WORDS], r: u16, p: BundleNumber) -> Made
+    ensures { λ a. ⌜ words.StructurizesLoop r (p .0) (now (w .entry)) (now (w .exit)) a ⌝ }
 {
     let n = fields::input_count(w, r);
     let condition = condition_in(w, p, set_length(w, r));

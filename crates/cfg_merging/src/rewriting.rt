@@ -16,18 +16,19 @@ use state_sets::sets::bundle_at;
 use state_sets::sets::set_target_input;
 use state_sets::sets::target;
 use state_sets::sets::target_input;
+use state_words::bundle_numbers::BundleNumber;
 use store::WORDS;
 
-fn rewrite_input(w: &mut [u16; WORDS], p: u16, k: u16)
-    ensures { λ _. ⌜ now (w .exit) ≡ words.«rewrite-input» (now (w .entry)) p k ⌝ }
+fn rewrite_input(w: &mut [u16; WORDS], p: BundleNumber, k: u16)
+    ensures { λ _. ⌜ now (w .exit) ≡ words.«rewrite-input» (now (w .entry)) (p .0) k ⌝ }
 {
     let v = target_input(w, p, k);
     let x = look_up_noting(w, v);
     set_target_input(w, p, k, x);
 }
 
-fn rewrite_bundle(w: &mut [u16; WORDS], p: u16)
-    ensures { λ _. ⌜ OfRecord (now (w .entry)) (λ g. now (w .exit) ≡ words.«rewrite-bundle» g (now (w .entry)) p) ⌝ }
+fn rewrite_bundle(w: &mut [u16; WORDS], p: BundleNumber)
+    ensures { λ _. ⌜ OfRecord (now (w .entry)) (λ g. now (w .exit) ≡ words.«rewrite-bundle» g (now (w .entry)) (p .0)) ⌝ }
 {
     let n = target_input_count(w, target(w, p));
     let mut k: u16 = 0;
@@ -37,8 +38,8 @@ fn rewrite_bundle(w: &mut [u16; WORDS], p: u16)
     }
 }
 
-fn rewrite_set(w: &mut [u16; WORDS], start: u16, n: u16)
-    ensures { λ _. ⌜ OfRecord (now (w .entry)) (λ g. now (w .exit) ≡ words.«rewrite-set» g (now (w .entry)) start n) ⌝ }
+fn rewrite_set(w: &mut [u16; WORDS], start: BundleNumber, n: u16)
+    ensures { λ _. ⌜ OfRecord (now (w .entry)) (λ g. now (w .exit) ≡ words.«rewrite-set» g (now (w .entry)) (start .0) n) ⌝ }
 {
     let mut i: u16 = 0;
     while i < n {

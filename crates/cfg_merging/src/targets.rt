@@ -16,6 +16,7 @@ use state_sets::sets::set_bundle;
 use state_sets::sets::set_length;
 use state_sets::sets::set_start;
 use state_sets::sets::target;
+use state_words::bundle_numbers::BundleNumber;
 use store::WORDS;
 
 // The length of a set of n bundles with k more. It stops at the largest word.
@@ -28,15 +29,15 @@ fn longer(n: u16, k: u16) -> u16
     65535
 }
 
-fn summarize_bundle(w: &mut [u16; WORDS], p: u16)
-    ensures { λ _. ⌜ now (w .exit) ≡ words.«summarize-bundle» (now (w .entry)) p ⌝ }
+fn summarize_bundle(w: &mut [u16; WORDS], p: BundleNumber)
+    ensures { λ _. ⌜ now (w .exit) ≡ words.«summarize-bundle» (now (w .entry)) (p .0) ⌝ }
 {
     let start = set_start(w, SPARE);
     let n = set_length(w, SPARE);
     let t = target(w, p);
     let count = accumulated_count(w, p);
     let q = find_by_target(w, start, n, t);
-    if q == NO_BUNDLE {
+    if q.0 == NO_BUNDLE {
         set_bundle(w, bundle_at(start, n), t, count, TRUE_COND);
         put_set_length(w, SPARE, longer(n, 1));
         return;
@@ -45,8 +46,8 @@ fn summarize_bundle(w: &mut [u16; WORDS], p: u16)
     set_accumulated_count(w, q, before.plus(count));
 }
 
-fn summarize_set(w: &mut [u16; WORDS], start: u16, n: u16)
-    ensures { λ _. ⌜ now (w .exit) ≡ words.«summarize-set» (now (w .entry)) start n ⌝ }
+fn summarize_set(w: &mut [u16; WORDS], start: BundleNumber, n: u16)
+    ensures { λ _. ⌜ now (w .exit) ≡ words.«summarize-set» (now (w .entry)) (start .0) n ⌝ }
 {
     let mut i: u16 = 0;
     while i < n {

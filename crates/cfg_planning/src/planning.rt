@@ -24,6 +24,7 @@ use state_sets::sets::set_start;
 use state_sets::sets::set_target_input;
 use state_sets::sets::target;
 use state_sets::sets::target_input;
+use state_words::bundle_numbers::BundleNumber;
 use state_words::values::input_index;
 use state_words::values::input_region;
 use state_words::values::is_const;
@@ -44,21 +45,21 @@ pub fn per_case_deferred(w: &[u16; WORDS], t: u16) -> [u16; 8]
     let mut j: u16 = 0;
     while j < n {
         let p = find_by_target(w, case_start(w, j), case_length(w, j), t);
-        places[j as usize] = p;
+        places[j as usize] = p.0;
         j += 1;
     }
     places
 }
 
 // Undef if the case ends, False if it goes elsewhere.
-pub fn per_case_condition(w: &[u16; WORDS], j: u16, p: u16) -> u16
-    ensures { λ a. ⌜ a ≡ words.«per-case-condition» (now (w .entry)) j p ⌝ }
+pub fn per_case_condition(w: &[u16; WORDS], j: u16, p: BundleNumber) -> u16
+    ensures { λ a. ⌜ a ≡ words.«per-case-condition» (now (w .entry)) j (p .0) ⌝ }
 {
     let n = case_length(w, j);
     if n == 0 {
         return UNDEF_COND;
     }
-    if p == NO_BUNDLE {
+    if p.0 == NO_BUNDLE {
         return FALSE_COND;
     }
     condition_in(w, p, n)
@@ -105,7 +106,7 @@ fn unique_input(w: &[u16; WORDS], places: &[u16; 8], k: u16) -> u16
     while j < n {
         let p = places[j as usize];
         if p != NO_BUNDLE {
-            let v = in_parent(w, j, target_input(w, p, k));
+            let v = in_parent(w, j, target_input(w, BundleNumber(p), k));
             found = with_passed(found, v);
             if found == TO_MERGE {
                 return TO_MERGE;
@@ -133,7 +134,7 @@ fn all_true(w: &[u16; WORDS], places: &[u16; 8]) -> bool
     let mut j: u16 = 0;
     while j < n {
         let p = places[j as usize];
-        if !is_true(per_case_condition(w, j, p)) {
+        if !is_true(per_case_condition(w, j, BundleNumber(p))) {
             return false;
         }
         j += 1;
@@ -142,17 +143,17 @@ fn all_true(w: &[u16; WORDS], places: &[u16; 8]) -> bool
 }
 
 // Each answers whether something is still to be made.
-fn plan_input(w: &mut [u16; WORDS], q: u16, places: &[u16; 8], k: u16) -> bool
-    ensures { λ a. ⌜ words.planned (now (w .exit)) a ≡ words.«plan-input» (now (w .entry)) q (now (places .entry)) k ⌝ }
+fn plan_input(w: &mut [u16; WORDS], q: BundleNumber, places: &[u16; 8], k: u16) -> bool
+    ensures { λ a. ⌜ words.planned (now (w .exit)) a ≡ words.«plan-input» (now (w .entry)) (q .0) (now (places .entry)) k ⌝ }
 {
     let v = unique_input(w, places, k);
     set_target_input(w, q, k, v);
     v == TO_MERGE
 }
 
-fn plan_inputs(w: &mut [u16; WORDS], q: u16, places: &[u16; 8]) -> bool
+fn plan_inputs(w: &mut [u16; WORDS], q: BundleNumber, places: &[u16; 8]) -> bool
     ensures { λ a. ⌜ OfRecord (now (w .entry)) (λ g.
-        words.planned (now (w .exit)) a ≡ words.«plan-inputs» g (now (w .entry)) q (now (places .entry))) ⌝ }
+        words.planned (now (w .exit)) a ≡ words.«plan-inputs» g (now (w .entry)) (q .0) (now (places .entry))) ⌝ }
 {
     let n = target_input_count(w, target(w, q));
     let mut merged = false;
@@ -166,8 +167,8 @@ fn plan_inputs(w: &mut [u16; WORDS], q: u16, places: &[u16; 8]) -> bool
     merged
 }
 
-fn plan_bundle(w: &mut [u16; WORDS], q: u16) -> bool
-    ensures { λ a. ⌜ OfRecord (now (w .entry)) (λ g. words.planned (now (w .exit)) a ≡ words.«plan-bundle» g (now (w .entry)) q) ⌝ }
+fn plan_bundle(w: &mut [u16; WORDS], q: BundleNumber) -> bool
+    ensures { λ a. ⌜ OfRecord (now (w .entry)) (λ g. words.planned (now (w .exit)) a ≡ words.«plan-bundle» g (now (w .entry)) (q .0)) ⌝ }
 {
     let places = per_case_deferred(w, target(w, q));
     let merged = plan_inputs(w, q, &places);

@@ -20,6 +20,7 @@ use state_sets::sets::NO_BUNDLE;
 use state_sets::sets::find_by_target;
 use state_sets::sets::set_length;
 use state_sets::sets::set_start;
+use state_words::bundle_numbers::BundleNumber;
 use state_words::defined::Made;
 use state_words::edges::IncomingEdgeCount;
 use store::Refusal;
@@ -42,8 +43,8 @@ fn claim_from_made(made: Made) -> Claim
 }
 
 // The bundle of region r's set that leads back to it.
-pub fn find_backedge(w: &[u16; WORDS], r: u16) -> u16
-    ensures { λ a. ⌜ a ≡ words.«backedge-at» (now (w .entry)) r ⌝ }
+pub fn find_backedge(w: &[u16; WORDS], r: u16) -> BundleNumber
+    ensures { λ a. ⌜ a .0 ≡ words.«backedge-at» (now (w .entry)) r ⌝ }
 {
     find_by_target(w, set_start(w, r), set_length(w, r), r)
 }
@@ -58,7 +59,7 @@ fn claim_body(w: &mut [u16; WORDS], r: u16) -> Claim
         return Claim::Claimed;
     }
     let p = find_backedge(w, r);
-    if p == NO_BUNDLE {
+    if p.0 == NO_BUNDLE {
         return Claim::Claimed;
     }
     claim_from_made(structurize_loop(w, r, p))

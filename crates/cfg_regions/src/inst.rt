@@ -28,6 +28,7 @@ use state_sets::sets::bundle_at;
 use state_sets::sets::put_set_length;
 use state_sets::sets::set_length;
 use state_sets::sets::set_start;
+use state_words::bundle_numbers::BundleNumber;
 use state_words::defined::Defined;
 use state_words::defined::Made;
 use state_words::defined::define_node;
@@ -118,8 +119,8 @@ pub fn by_control_inst(w: &mut [u16; WORDS], r: u16) -> Made
 }
 
 // Bundle i of region r's own set.
-pub fn own_bundle(w: &[u16; WORDS], r: u16, i: u16) -> u16
-    ensures { λ a. ⌜ a ≡ words.«own-bundle» (now (w .entry)) r i ⌝ }
+pub fn own_bundle(w: &[u16; WORDS], r: u16, i: u16) -> BundleNumber
+    ensures { λ a. ⌜ a .0 ≡ words.«own-bundle» (now (w .entry)) r i ⌝ }
 {
     bundle_at(set_start(w, r), i)
 }
@@ -140,7 +141,7 @@ fn backedges_deferred(w: &[u16; WORDS], r: u16) -> IncomingEdgeCount
     ensures { λ a. ⌜ (a .0 ≡ words.«backedges-deferred» (now (w .entry)) r) × (a .0 ≤ 65535) ⌝ }
 {
     let p = find_backedge(w, r);
-    if p == NO_BUNDLE {
+    if p.0 == NO_BUNDLE {
         return IncomingEdgeCount::zero();
     }
     accumulated_count(w, p)

@@ -22,6 +22,7 @@ use state_sets::sets::SPARE;
 use state_sets::sets::put_set_length;
 use state_sets::sets::set_length;
 use state_sets::sets::swap_sets;
+use state_words::bundle_numbers::BundleNumber;
 use state_words::defined::Defined;
 use state_words::defined::Made;
 use store::WORDS;
@@ -84,7 +85,7 @@ pub fn structurize_select_into(
     let j = convergent_case(w);
     if j < 8 {
         let x = case_at(w, j);
-        set_case(w, j, unclaimed_case(NOTHING_DEFERRED, 0, 0));
+        set_case(w, j, unclaimed_case(NOTHING_DEFERRED, BundleNumber(0), 0));
         if let Made::Full = structurize_select(w, r, shape, scrutinee) {
             return Made::Full;
         }

@@ -9,11 +9,12 @@ use sheet_words::place::put_word;
 use sheet_words::value::put_value;
 use state_sets::sets::target;
 use state_sets::sets::target_input;
+use state_words::bundle_numbers::BundleNumber;
 use store::WORDS;
 
 // In its own line, or as the outputs of a whole form.
-pub fn put_target_inputs(w: &[u16; WORDS], out: &mut [u32], at: Place, p: u16) -> Place
-    ensures { λ a. ⌜ OfState (now (w .entry)) (λ g s. (e : DeferredEdgeBundle) → ShowsBundle g (now (w .entry)) p e
+pub fn put_target_inputs(w: &[u16; WORDS], out: &mut [u32], at: Place, p: BundleNumber) -> Place
+    ensures { λ a. ⌜ OfState (now (w .entry)) (λ g s. (e : DeferredEdgeBundle) → ShowsBundle g (now (w .entry)) (p .0) e
         → Puts (now (out .entry)) at (values-part s (e .«target-inputs»)) (now (out .exit)) a) ⌝ }
 {
     let n = target_input_count(w, target(w, p));

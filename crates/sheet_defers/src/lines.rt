@@ -18,12 +18,20 @@ use state_sets::sets::bundle_at;
 use state_sets::sets::set_length;
 use state_sets::sets::set_start;
 use state_sets::sets::target;
+use state_words::bundle_numbers::BundleNumber;
 use store::WORDS;
 
 // Bundle p of a set of `size` bundles.
-fn put_bundle(w: &[u16; WORDS], out: &mut [u32], at: Place, r: u16, p: u16, size: u16) -> Place
+fn put_bundle(
+    w: &[u16; WORDS],
+    out: &mut [u32],
+    at: Place,
+    r: u16,
+    p: BundleNumber,
+    size: u16,
+) -> Place
     ensures { λ a. ⌜ OfState (now (w .entry)) (λ g s. (d : DeferredEdgeBundleSet) (e : DeferredEdgeBundle) → size ≡ length d
-        → ShowsBundle g (now (w .entry)) p e → Puts (now (out .entry)) at (defer-part s r d e) (now (out .exit)) a) ⌝ }
+        → ShowsBundle g (now (w .entry)) (p .0) e → Puts (now (out .entry)) at (defer-part s r d e) (now (out .exit)) a) ⌝ }
 {
     let condition = put_condition(w, out, at, condition_in(w, p, size));
     let inputs = put_target_inputs(w, out, condition, p);

@@ -4,6 +4,7 @@ ghost use Prim.Native.Nat.{_≤_};
 ghost use Rattle.state_words.specs.Sections as sections;
 ghost use Rattle.state_regions.specs.RegionTables as tables;
 ghost use Rattle.state_words.specs.Rows as rows;
+use state_words::bundle_numbers::BundleNumber;
 use state_words::defined::CASE_TOTAL;
 use state_words::defined::head;
 use state_words::defined::set_head;
@@ -31,7 +32,7 @@ pub struct Case {
     pub origin: u16,
     pub body: u16,
     pub children: u16,
-    pub start: u16,
+    pub start: BundleNumber,
     pub length: u16,
 }
 
@@ -96,10 +97,10 @@ pub fn case_children(w: &[u16; WORDS], j: u16) -> u16
     word(w, j, 3)
 }
 
-pub fn case_start(w: &[u16; WORDS], j: u16) -> u16
-    ensures { λ a. ⌜ a ≡ rows.«case-set-start» (now (w .entry)) j ⌝ }
+pub fn case_start(w: &[u16; WORDS], j: u16) -> BundleNumber
+    ensures { λ a. ⌜ a .0 ≡ rows.«case-set-start» (now (w .entry)) j ⌝ }
 {
-    word(w, j, 4)
+    BundleNumber(word(w, j, 4))
 }
 
 pub fn case_length(w: &[u16; WORDS], j: u16) -> u16
@@ -125,7 +126,7 @@ pub fn set_case(w: &mut [u16; WORDS], j: u16, x: Case)
     ensures { λ _. ⌜ now (w .exit) ≡ sections.«stored-all» (now (w .entry)) sections.cases (rows.«case-row-at» j)
         (tables.«case-words» x) ⌝ }
 {
-    let xs = [x.kind, x.origin, x.body, x.children, x.start, x.length];
+    let xs = [x.kind, x.origin, x.body, x.children, x.start.0, x.length];
     put_all(w, CASES, ROW * (j as usize), &xs);
 }
 

@@ -127,7 +127,8 @@ appends-kinds {w} {r} {j} {x} (appended {l₂} {h} k y e) =
     (kinds-stored (swapped (stored l₂ children r h) r (x .origin)) set-lengths (omega arith) r (x .length))))))
 appends-kinds {w} {r} {x} (its-edge k e) =
     let p = bundle-at (word w set-starts r) 0 in
-    rw e (kinds-then (copied-kinds w p (x .start)) (kinds-stored (bundle-copied w p (x .start)) set-lengths (omega arith) r (x .length)))
+    rw e (kinds-then (copied-kinds w p (x .start .0))
+    (kinds-stored (bundle-copied w p (x .start .0)) set-lengths (omega arith) r (x .length)))
 appends-kinds {w} {r} {x} (its-rest d f e) = rw e (kinds-stored w set-lengths (omega arith) r (x .length))
 
 -- ---- Selects.

@@ -189,5 +189,5 @@ append-claimed l r x j kind a b c d e f k =
 
 pub append-edge : (l : List ℕ) (r : ℕ) (x : Case) (j : ℕ) {start p : ℕ} {l₁ l₂ : List ℕ} → x .kind ≡ case-own-edge
     → start ≡ word l set-starts r
-    → p ≡ bundle-at start 0 → l₁ ≡ bundle-copied l p (x .start) → l₂ ≡ stored l₁ set-lengths r (x .length) → Appends l l₂ r x j
+    → p ≡ bundle-at start 0 → l₁ ≡ bundle-copied l p (x .start .0) → l₂ ≡ stored l₁ set-lengths r (x .length) → Appends l l₂ r x j
 append-edge l r x j kind a b c d = its-edge kind (d ∙ rw (c, b, a))

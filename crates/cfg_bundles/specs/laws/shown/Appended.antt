@@ -46,7 +46,7 @@ pub data ShowsAlone (g : Graph) (w : List ℕ) (r j : ℕ) (x : Case) : MaybeCla
       → ShowsChildren g w (x .children) (c .children) → ShowsSet g w (word w set-starts (c .origin)) (x .length) (c .deferred-edges)
       → ((k : ℕ) → k < 4 → Names (case-input w j k) (getD (c .structured-body-inputs) k (undef 0)))
       → ShowsAlone g w r j x (ok c)
-  edge-parts : {d : DeferredEdgeBundleSet} → x .kind ≡ case-own-edge → x .length ≡ 1 → ShowsSet g w (x .start) 1 d
+  edge-parts : {d : DeferredEdgeBundleSet} → x .kind ≡ case-own-edge → x .length ≡ 1 → ShowsSet g w (x .start .0) 1 d
       → ShowsAlone g w r j x (err d)
   -- Nothing, or what is left of region r's own set.
   rest-parts : {d : DeferredEdgeBundleSet} → (x .kind ≡ case-claimed → ⊥) → (x .kind ≡ case-own-edge → ⊥)

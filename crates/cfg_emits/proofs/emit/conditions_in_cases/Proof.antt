@@ -25,14 +25,14 @@ case-count-requires c κs = search needs
 loop-holds : tie.Need-loop-holds Inv-loop μ-loop
 loop-holds c = (c .case-count .ensures, few-total _ _ (c .case-count .ensures), omega arith, in-none _ 0)
 
-cast-per-case-condition : tie.Need-cast-per-case-condition Inv-loop μ-loop
-cast-per-case-condition c = search needs
+cast-p : tie.Need-cast-p Inv-loop μ-loop
+cast-p c = search needs
 
-mul-per-case-condition : tie.Need-mul-per-case-condition Inv-loop μ-loop
-mul-per-case-condition c = search needs
+mul-p : tie.Need-mul-p Inv-loop μ-loop
+mul-p c = search needs
 
-element-copy-out-per-case-condition : tie.Need-element-copy-out-per-case-condition Inv-loop μ-loop
-element-copy-out-per-case-condition c = search needs
+element-copy-out-p : tie.Need-element-copy-out-p Inv-loop μ-loop
+element-copy-out-p c = search needs
 
 per-case-condition-requires : tie.Need-per-case-condition-requires Inv-loop μ-loop
 per-case-condition-requires c κs = search needs
@@ -71,9 +71,9 @@ conditions-in-cases-spec =
     μ-loop
     case-count-requires
     loop-holds
-    cast-per-case-condition
-    mul-per-case-condition
-    element-copy-out-per-case-condition
+    cast-p
+    mul-p
+    element-copy-out-p
     per-case-condition-requires
     cast-parts
     mul-parts

@@ -9,7 +9,7 @@ use Rattle.cfg_emits.proofs.emit.emit_inputs.Statement.{statement}
 use Rattle.cfg_emits.proofs.emit.emit_inputs.Tie as tie
 
 abbrev Inv-loop : tie.InvT-loop
-Inv-loop w₀ node q places t n k₀ w k = (k ≤ n) × GoesOnBy (λ g. EmitInput g node q t places) n k w₀ w
+Inv-loop w₀ node q places t n k₀ w k = (k ≤ n) × GoesOnBy (λ g. EmitInput g node (q .0) t places) n k w₀ w
 
 abbrev μ-loop : tie.MeasureT-loop
 μ-loop w₀ node q places t n k₀ w k = n - k

@@ -24,14 +24,14 @@ case-count-requires c κs = search needs
 loop-holds : tie.Need-loop-holds Inv-loop μ-loop
 loop-holds c = (c .case-count .ensures, few-total _ _ (c .case-count .ensures), omega arith, in-none _ undef-from)
 
-cast-value-in-case : tie.Need-cast-value-in-case Inv-loop μ-loop
-cast-value-in-case c = search needs
+cast-p : tie.Need-cast-p Inv-loop μ-loop
+cast-p c = search needs
 
-mul-value-in-case : tie.Need-mul-value-in-case Inv-loop μ-loop
-mul-value-in-case c = search needs
+mul-p : tie.Need-mul-p Inv-loop μ-loop
+mul-p c = search needs
 
-element-copy-out-value-in-case : tie.Need-element-copy-out-value-in-case Inv-loop μ-loop
-element-copy-out-value-in-case c = search needs
+element-copy-out-p : tie.Need-element-copy-out-p Inv-loop μ-loop
+element-copy-out-p c = search needs
 
 value-in-case-requires : tie.Need-value-in-case-requires Inv-loop μ-loop
 value-in-case-requires c κs = search needs
@@ -70,9 +70,9 @@ values-in-cases-spec =
     μ-loop
     case-count-requires
     loop-holds
-    cast-value-in-case
-    mul-value-in-case
-    element-copy-out-value-in-case
+    cast-p
+    mul-p
+    element-copy-out-p
     value-in-case-requires
     cast-vs
     mul-vs

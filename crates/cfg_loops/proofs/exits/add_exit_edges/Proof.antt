@@ -8,7 +8,7 @@ use Rattle.cfg_loops.proofs.exits.add_exit_edges.Statement.{statement}
 use Rattle.cfg_loops.proofs.exits.add_exit_edges.Tie as tie
 
 abbrev Inv-loop : tie.InvT-loop
-Inv-loop w₀ r start n i₀ w i = OfRecord w₀ (λ g. ExitsLeft g r start n i w₀ w) × (i ≤ n)
+Inv-loop w₀ r start n i₀ w i = OfRecord w₀ (λ g. ExitsLeft g r (start .0) n i w₀ w) × (i ≤ n)
 
 abbrev μ-loop : tie.MeasureT-loop
 μ-loop w₀ r start n i₀ w i = n - i

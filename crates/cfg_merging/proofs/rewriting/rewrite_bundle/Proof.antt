@@ -8,7 +8,7 @@ use Rattle.cfg_merging.proofs.rewriting.rewrite_bundle.Statement.{state
 use Rattle.cfg_merging.proofs.rewriting.rewrite_bundle.Tie as tie
 
 abbrev Inv-loop : tie.InvT-loop
-Inv-loop w₀ p n k₀ w k = turned (λ m i. rewrite-input m p i) w (n - k) k ≡ turned (λ m i. rewrite-input m p i) w₀ n 0
+Inv-loop w₀ p n k₀ w k = turned (λ m i. rewrite-input m (p .0) i) w (n - k) k ≡ turned (λ m i. rewrite-input m (p .0) i) w₀ n 0
 
 abbrev μ-loop : tie.MeasureT-loop
 μ-loop w₀ p n k₀ w k = n - k

@@ -9,7 +9,7 @@ use Rattle.cfg_merging.proofs.rewriting.rewrite_set.Statement.{statemen
 use Rattle.cfg_merging.proofs.rewriting.rewrite_set.Tie as tie
 
 abbrev Inv-loop : tie.InvT-loop
-Inv-loop w₀ start n i₀ w i = OfRecord w₀ (Left (λ l. l) (λ g m k. rewrite-bundle g m (bundle-at start k)) w₀ n w i)
+Inv-loop w₀ start n i₀ w i = OfRecord w₀ (Left (λ l. l) (λ g m k. rewrite-bundle g m (bundle-at (start .0) k)) w₀ n w i)
 
 abbrev μ-loop : tie.MeasureT-loop
 μ-loop w₀ start n i₀ w i = n - i

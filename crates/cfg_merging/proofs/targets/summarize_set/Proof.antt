@@ -8,8 +8,8 @@ use Rattle.cfg_merging.proofs.targets.summarize_set.Statement.{statemen
 use Rattle.cfg_merging.proofs.targets.summarize_set.Tie as tie
 
 abbrev Inv-loop : tie.InvT-loop
-Inv-loop w₀ start n i₀ w i = turned (λ m k. summarize-bundle m (bundle-at start k)) w (n - i) i ≡ turned
-    (λ m k. summarize-bundle m (bundle-at start k)) w₀ n 0
+Inv-loop w₀ start n i₀ w i = turned (λ m k. summarize-bundle m (bundle-at (start .0) k)) w (n - i) i ≡ turned
+    (λ m k. summarize-bundle m (bundle-at (start .0) k)) w₀ n 0
 
 abbrev μ-loop : tie.MeasureT-loop
 μ-loop w₀ start n i₀ w i = n - i

@@ -11,13 +11,13 @@ returns : tie.Need-returns
 returns c = condition-ended _ _ _ _ (c .before .case-length .ensures) (c .if1 .taken)
 
 returns-2 : tie.Need-returns-2
-returns-2 c = condition-elsewhere _ _ _ _ (c .before .before .case-length .ensures) (c .before .if1 .left) (c .if2 .taken)
+returns-2 c = condition-elsewhere _ _ _ _ (c .before .before .before .case-length .ensures) (c .before .before .if1 .left) (c .if2 .taken)
 
 condition-in-requires : tie.Need-condition-in-requires
 condition-in-requires c κs = search needs
 
 returns-3 : tie.Need-returns-3
-returns-3 c = condition-there _ _ _ _ (c .before .before .before .case-length .ensures) (c .before .before .if1 .left)
+returns-3 c = condition-there _ _ _ _ (c .before .before .before .before .case-length .ensures) (c .before .before .before .if1 .left)
     (c .before .if2 .left) (c .condition-in .ensures)
 
 pub per-case-condition-spec : {M : Type 1} → statement M

@@ -10,7 +10,8 @@ use Rattle.cfg_planning.proofs.planning.plan_bundles.Statement.{stateme
 use Rattle.cfg_planning.proofs.planning.plan_bundles.Tie as tie
 
 abbrev Inv-loop : tie.InvT-loop
-Inv-loop w₀ start n needed₀ i₀ w needed i = OfRecord w₀ (Left (λ x. x .words) (plan-at start) (planned w₀ false) n (planned w needed) i)
+Inv-loop w₀ start n needed₀ i₀ w needed i = OfRecord w₀ (Left (λ x. x .words) (plan-at (start .0)) (planned w₀ false) n
+    (planned w needed) i)
 
 abbrev μ-loop : tie.MeasureT-loop
 μ-loop w₀ start n needed₀ i₀ w needed i = n - i

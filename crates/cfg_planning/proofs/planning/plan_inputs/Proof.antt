@@ -10,8 +10,8 @@ use Rattle.cfg_planning.proofs.planning.plan_inputs.Statement.{statemen
 use Rattle.cfg_planning.proofs.planning.plan_inputs.Tie as tie
 
 abbrev Inv-loop : tie.InvT-loop
-Inv-loop w₀ q places n merged₀ k₀ w merged k = turned (also (λ m i. plan-input m q places i)) (planned w merged) (n - k) k
-    ≡ turned (also (λ m i. plan-input m q places i)) (planned w₀ false) n 0
+Inv-loop w₀ q places n merged₀ k₀ w merged k = turned (also (λ m i. plan-input m (q .0) places i)) (planned w merged) (n - k) k
+    ≡ turned (also (λ m i. plan-input m (q .0) places i)) (planned w₀ false) n 0
 
 abbrev μ-loop : tie.MeasureT-loop
 μ-loop w₀ q places n merged₀ k₀ w merged k = n - k

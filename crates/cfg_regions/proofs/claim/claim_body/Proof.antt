@@ -34,14 +34,14 @@ find-backedge-requires c κs = search needs
 
 returns-2 : tie.Need-returns-2
 returns-2 c =
-    let d = c .before .before .before in
+    let d = c .before .before .before .before in
     let at-zero = d .before .before in
     let at-backedge-count = at-zero .before in
     let at-set-structured-body = at-backedge-count .before .before in
     let at-set-region-state = at-set-structured-body .before .before in
     λ g st. body-without g _ _ (at-set-region-state .set-region-state .ensures)
     (at-set-structured-body .set-structured-body .ensures) (at-backedge-count .backedge-count .ensures)
-    (at-zero .zero .ensures) (d .before .same .ensures) (d .if1 .left) (c .before .find-backedge .ensures) (c .if2 .taken)
+    (at-zero .zero .ensures) (d .before .same .ensures) (d .if1 .left) (c .before .before .find-backedge .ensures) (c .if2 .taken)
 
 structurize-loop-requires : tie.Need-structurize-loop-requires
 structurize-loop-requires c κs = search needs
@@ -51,14 +51,14 @@ claim-from-made-requires c κs = search needs
 
 returns-3 : tie.Need-returns-3
 returns-3 c =
-    let d = c .before .before .before .before .before .before in
+    let d = c .before .before .before .before .before .before .before in
     let at-zero = d .before .before in
     let at-backedge-count = at-zero .before in
     let at-set-structured-body = at-backedge-count .before .before in
     let at-set-region-state = at-set-structured-body .before .before in
     λ g st. body-loop g _ _ (at-set-region-state .set-region-state .ensures)
     (at-set-structured-body .set-structured-body .ensures) (at-backedge-count .backedge-count .ensures)
-    (at-zero .zero .ensures) (d .before .same .ensures) (d .if1 .left) (c .before .before .before .before .find-backedge .ensures)
+    (at-zero .zero .ensures) (d .before .same .ensures) (d .if1 .left) (c .before .before .before .before .before .find-backedge .ensures)
     (c .before .before .before .if2 .left) (c .before .structurize-loop .ensures) (c .claim-from-made .ensures)
 
 pub claim-body-spec : {M : Type 1} → statement M

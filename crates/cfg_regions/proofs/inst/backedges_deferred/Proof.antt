@@ -13,7 +13,7 @@ zero-requires c κs = search needs
 
 returns : tie.Need-returns
 returns c = (
-  c .zero .ensures ∙ deferred-none _ _ _ (c .before .before .find-backedge .ensures) (c .before .if1 .taken),
+  c .zero .ensures ∙ deferred-none _ _ _ (c .before .before .before .find-backedge .ensures) (c .before .if1 .taken),
   omega (arith, c .zero .ensures),
 )
 
@@ -22,7 +22,7 @@ accumulated-count-requires c κs = search needs
 
 returns-2 : tie.Need-returns-2
 returns-2 c = (
-  deferred-some _ _ _ (c .before .before .find-backedge .ensures) (c .before .if1 .left) _ (c .accumulated-count .ensures .0),
+  deferred-some _ _ _ (c .before .before .before .find-backedge .ensures) (c .before .if1 .left) _ (c .accumulated-count .ensures .0),
   c .accumulated-count .ensures .1,
 )
 

@@ -13,7 +13,7 @@ use Rattle.sheet_defers.proofs.inputs.put_target_inputs.Statement.{stat
 use Rattle.sheet_defers.proofs.inputs.put_target_inputs.Tie as tie
 
 abbrev Inv-loop : tie.InvT-loop
-Inv-loop w out₀ p n to₀ k₀ out to k = OfState w (λ g s. Puts out₀ to₀ (run (input-part w s p) k (n - k)) out to) × (k ≤ n)
+Inv-loop w out₀ p n to₀ k₀ out to k = OfState w (λ g s. Puts out₀ to₀ (run (input-part w s (p .0)) k (n - k)) out to) × (k ≤ n)
     × (length out ≡ length out₀)
 
 abbrev μ-loop : tie.MeasureT-loop

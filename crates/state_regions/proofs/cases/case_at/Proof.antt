@@ -21,7 +21,14 @@ case-length-requires : tie.Need-case-length-requires
 case-length-requires c κs = search needs
 
 returns : tie.Need-returns
-returns c = cc
+returns c = λ i. record {
+  kind = c .before .before .before .before .before .case-kind .ensures i;
+  origin = c .before .before .before .before .case-origin .ensures i;
+  body = c .before .before .before .case-body .ensures i;
+  children = c .before .before .case-children .ensures i;
+  start = record { 0 = c .before .case-start .ensures i };
+  length = c .case-length .ensures i;
+}
 
 pub case-at-spec : {M : Type 1} → statement M
 case-at-spec =

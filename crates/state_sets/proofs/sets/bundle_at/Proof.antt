@@ -4,12 +4,12 @@ use borrow.Author.Needs.{needs}
 use Rattle.state_sets.proofs.sets.bundle_at.Statement.{statement}
 use Rattle.state_sets.proofs.sets.bundle_at.Tie as tie
 
-add-result : tie.Need-add-result
-add-result c = search needs
+add-t5 : tie.Need-add-t5
+add-t5 c = search needs
 
 returns : tie.Need-returns
 unfolding bundle-at
-returns c = simp (lt-ltb _ _ (c .before .if1 .taken), lt-ltb _ _ (c .if2 .taken))
+returns c = simp (lt-ltb _ _ (c .before .before .if1 .taken), lt-ltb _ _ (c .before .if2 .taken))
 
 returns-2 : tie.Need-returns-2
 unfolding bundle-at
@@ -20,4 +20,4 @@ unfolding bundle-at
 returns-3 c = simp (le-ltb _ _ (c .if1 .left))
 
 pub bundle-at-spec : {M : Type 1} → statement M
-bundle-at-spec = tie.close (tie.spec add-result returns returns-2 returns-3)
+bundle-at-spec = tie.close (tie.spec add-t5 returns returns-2 returns-3)

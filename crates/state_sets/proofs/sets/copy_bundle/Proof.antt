@@ -23,6 +23,9 @@ word-requires-6 c κs = search needs
 word-requires-7 : tie.Need-word-requires-7
 word-requires-7 c κs = search needs
 
+cast-put-all : tie.Need-cast-put-all
+cast-put-all c = search needs
+
 mul-put-all : tie.Need-mul-put-all
 mul-put-all c = search needs
 
@@ -34,7 +37,7 @@ put-all-requires c κs = search needs
 
 returns : tie.Need-returns
 returns c =
-    let at-word = c .before .before .before in
+    let at-word = c .before .before .before .before in
     let at-word-2 = at-word .before .before in
     let at-word-3 = at-word-2 .before .before in
     let b = at-word-3 in
@@ -63,6 +66,7 @@ copy-bundle-spec =
     word-requires-5
     word-requires-6
     word-requires-7
+    cast-put-all
     mul-put-all
     slice-aggregate-put-all
     put-all-requires

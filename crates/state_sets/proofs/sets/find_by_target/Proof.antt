@@ -8,7 +8,7 @@ use Rattle.state_sets.proofs.sets.find_by_target.Statement.{statement}
 use Rattle.state_sets.proofs.sets.find_by_target.Tie as tie
 
 abbrev Inv-loop : tie.InvT-loop
-Inv-loop w start n t i₀ i = (i ≤ n) × (find-by w start t (n - i) i ≡ find-by w start t n 0)
+Inv-loop w start n t i₀ i = (i ≤ n) × (find-by w (start .0) t (n - i) i ≡ find-by w (start .0) t n 0)
 
 abbrev μ-loop : tie.MeasureT-loop
 μ-loop w start n t i₀ i = n - i

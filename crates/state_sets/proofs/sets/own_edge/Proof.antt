@@ -5,8 +5,8 @@ use borrow.Author.Needs.{needs}
 use Rattle.state_sets.proofs.sets.own_edge.Statement.{statement}
 use Rattle.state_sets.proofs.sets.own_edge.Tie as tie
 
-add-result : tie.Need-add-result
-add-result c = search needs
+add-t3 : tie.Need-add-t3
+add-t3 c = search needs
 
 returns : tie.Need-returns
 unfolding own-edge
@@ -17,4 +17,4 @@ unfolding own-edge
 returns-2 c = passed-over _ _ (le-ltb _ _ (c .if1 .left))
 
 pub own-edge-spec : {M : Type 1} → statement M
-own-edge-spec = tie.close (tie.spec add-result returns returns-2)
+own-edge-spec = tie.close (tie.spec add-t3 returns returns-2)

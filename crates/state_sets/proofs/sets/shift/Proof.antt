@@ -7,7 +7,7 @@ use Rattle.state_sets.proofs.sets.shift.Statement.{statement}
 use Rattle.state_sets.proofs.sets.shift.Tie as tie
 
 abbrev Inv-loop : tie.InvT-loop
-Inv-loop w₀ start i n j₀ w j = shifted w start j (n - 1 - j) ≡ shifted w₀ start i (n - 1 - i)
+Inv-loop w₀ start i n j₀ w j = shifted w (start .0) j (n - 1 - j) ≡ shifted w₀ (start .0) i (n - 1 - i)
 
 abbrev μ-loop : tie.MeasureT-loop
 μ-loop w₀ start i n j₀ w j = n - 1 - j

@@ -5,8 +5,8 @@ use borrow.Author.Needs.{needs}
 use Rattle.state_sets.proofs.sets.slot.Statement.{statement}
 use Rattle.state_sets.proofs.sets.slot.Tie as tie
 
-mul-result : tie.Need-mul-result
-mul-result c = search needs
+mul-t3 : tie.Need-mul-t3
+mul-t3 c = search needs
 
 returns : tie.Need-returns
 unfolding slot
@@ -17,4 +17,4 @@ unfolding slot
 returns-2 c = passed-over _ _ (le-ltb _ _ (c .if1 .left))
 
 pub slot-spec : {M : Type 1} → statement M
-slot-spec = tie.close (tie.spec mul-result returns returns-2)
+slot-spec = tie.close (tie.spec mul-t3 returns returns-2)
