@@ -70,7 +70,7 @@ return-deferred g l r =
 
 -- ---- Cases.
 abbrev pub unclaimed-case : ℕ → ℕ → ℕ → Case
-unclaimed-case kind start length = record { kind = kind; origin = 0; body = 0; children = 0; start = record { 0 = start }; length = length }
+unclaimed-case kind start length = record { kind = kind; origin = 0; body = 0; children = record { 0 = 0 }; start = record { 0 = start }; length = length }
 
 abbrev pub claimed-case : List ℕ → ℕ → Case
 claimed-case l t =
@@ -78,7 +78,7 @@ claimed-case l t =
       kind = case-claimed;
       origin = t;
       body = word l bodies t;
-      children = word l children t;
+      children = record { 0 = word l children t };
       start = record { 0 = word l set-starts t };
       length = word l set-lengths t;
     }
@@ -128,7 +128,7 @@ case-inputs l j =
 pub data Appends (l l′ : List ℕ) (r : ℕ) (x : Case) (j : ℕ) : Type 0 where
   appended : {l₂ : List ℕ} {h : ℕ} → x .kind ≡ case-claimed
       → Joins (inserted l (x .body) entry-replace (case-inputs l j)) l₂
-      (word (inserted l (x .body) entry-replace (case-inputs l j)) children r) (x .children) h
+      (word (inserted l (x .body) entry-replace (case-inputs l j)) children r) (x .children .0) h
       → l′ ≡ stored (swapped (stored l₂ children r h) r (x .origin)) set-lengths r (x .length) → Appends l l′ r x j
   its-edge : x .kind ≡ case-own-edge
       → l′ ≡ stored (bundle-copied l (bundle-at (word l set-starts r) 0) (x .start .0)) set-lengths r (x .length)

@@ -37,7 +37,8 @@ pub fn append_maybe_claimed_region(w: &mut [u16; WORDS], r: u16, x: Case, j: u16
         let vs = case_inputs(w, j);
         insert_rewrites(w, x.body, REPLACE_WITH, &vs);
         let before = children(w, r);
-        let h = join(w, before, x.children);
+        let more = x.children;
+        let h = join(w, before, more);
         set_children(w, r, h);
         swap_sets(w, r, x.origin);
         put_set_length(w, r, x.length);

@@ -29,6 +29,7 @@ use state_sets::sets::shift_remove;
 use state_sets::sets::target;
 use state_sets::sets::target_input;
 use state_words::bundle_numbers::BundleNumber;
+use state_words::handles::Handle;
 use state_words::values::UNDEF;
 use store::WORDS;
 
@@ -40,7 +41,7 @@ pub fn unclaimed_case(kind: u16, start: BundleNumber, length: u16) -> Case
         kind,
         origin: 0,
         body: 0,
-        children: 0,
+        children: Handle(0),
         start,
         length,
     }

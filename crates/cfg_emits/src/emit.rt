@@ -25,6 +25,7 @@ use state_sets::sets::target_input;
 use state_words::bundle_numbers::BundleNumber;
 use state_words::defined::Defined;
 use state_words::defined::Made;
+use state_words::handles::Handle;
 use state_words::values::UNDEF;
 use state_words::values::output;
 use state_words::values::undef;
@@ -113,8 +114,8 @@ fn conditions_in_cases(w: &[u16; WORDS], places: &[u16; 8]) -> [u16; 8]
 }
 
 // h is the select's cell.
-fn emit_condition(w: &mut [u16; WORDS], h: u16, q: BundleNumber, places: &[u16; 8]) -> Made
-    ensures { λ a. ⌜ words.EmitCondition h (q .0) (now (places .entry)) (now (w .entry)) (now (w .exit)) a ⌝ }
+fn emit_condition(w: &mut [u16; WORDS], h: Handle, q: BundleNumber, places: &[u16; 8]) -> Made
+    ensures { λ a. ⌜ words.EmitCondition (h .0) (q .0) (now (places .entry)) (now (w .entry)) (now (w .exit)) a ⌝ }
 {
     if condition(w, q) != TO_DEFINE {
         return Made::Done;
@@ -129,8 +130,8 @@ fn emit_condition(w: &mut [u16; WORDS], h: u16, q: BundleNumber, places: &[u16; 
     }
 }
 
-fn emit_bundle(w: &mut [u16; WORDS], h: u16, q: BundleNumber) -> Made
-    ensures { λ a. ⌜ OfRecord (now (w .entry)) (λ g. words.EmitBundle g h (q .0) (now (w .entry)) (now (w .exit)) a) ⌝ }
+fn emit_bundle(w: &mut [u16; WORDS], h: Handle, q: BundleNumber) -> Made
+    ensures { λ a. ⌜ OfRecord (now (w .entry)) (λ g. words.EmitBundle g (h .0) (q .0) (now (w .entry)) (now (w .exit)) a) ⌝ }
 {
     let places = per_case_deferred(w, target(w, q));
     let node = select_node(w, h);
@@ -141,8 +142,8 @@ fn emit_bundle(w: &mut [u16; WORDS], h: u16, q: BundleNumber) -> Made
 }
 
 // In the order of the select's deferred targets.
-pub fn emit_bundles(w: &mut [u16; WORDS], h: u16) -> Made
-    ensures { λ a. ⌜ OfRecord (now (w .entry)) (λ g. words.Emits g h (now (w .entry)) (now (w .exit)) a) ⌝ }
+pub fn emit_bundles(w: &mut [u16; WORDS], h: Handle) -> Made
+    ensures { λ a. ⌜ OfRecord (now (w .entry)) (λ g. words.Emits g (h .0) (now (w .entry)) (now (w .exit)) a) ⌝ }
 {
     let start = set_start(w, SPARE);
     let n = set_length(w, SPARE);

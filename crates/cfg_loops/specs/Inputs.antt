@@ -6,7 +6,7 @@ use lib.ListN.{getD, set}
 use Rattle.state_words.specs.Values.{region-word, held-from, input-from}
 use Rattle.state_nodes.specs.NodeTables.{Adds}
 use Rattle.state_sets.specs.SetTables.{input-word}
-use Rattle.state_nodes.specs.declared.cells.Cell.the-variants.{Kept}
+use Rattle.state_nodes.specs.NodeTables.{Kept}
 use Rattle.cfg_lookups.specs.LookUps.{Rewrites}
 use Rattle.cfg_loops.specs.declared.inputs.LoopInputs.{LoopInputs}
 
@@ -26,7 +26,7 @@ pub data RewritesValues (n : ℕ) : ℕ → List ℕ → List ℕ → List ℕ �
 
 -- Input k of header r is kept: its cell, and its new number.
 pub record KeepsInput (r wrapper k v : ℕ) (x : LoopInputs) (l l′ : List ℕ) (y : LoopInputs) : Type 0 where
-  pub cell : Adds l l′ (Kept (x .cells) k wrapper v) (y .cells)
+  pub cell : Adds l l′ (Kept (x .cells .0) k wrapper v) (y .cells .0)
   pub count : y .count ≡ x .count + 1
   pub entry : y .entry ≡ region-word held-from r (x .count)
 
@@ -41,7 +41,7 @@ pub data TakesInput (r wrapper n k v : ℕ) (x : LoopInputs) (l l′ : List ℕ)
 
 -- The first k are taken: from words l and values vs to l′ and ws, where the first k are their entries.
 pub data TakesFrom (r wrapper n : ℕ) : ℕ → List ℕ → List ℕ → List ℕ → List ℕ → LoopInputs → Type 0 where
-  none-taken : {k : ℕ} {l vs l′ ws : List ℕ} {x : LoopInputs} → k ≡ 0 → l′ ≡ l → ws ≡ vs → x .count ≡ 0 → x .cells ≡ 0
+  none-taken : {k : ℕ} {l vs l′ ws : List ℕ} {x : LoopInputs} → k ≡ 0 → l′ ≡ l → ws ≡ vs → x .count ≡ 0 → x .cells .0 ≡ 0
       → TakesFrom r wrapper n k l vs l′ ws x
   one-taken : {k i : ℕ} {l vs l₁ ws l′ ws′ : List ℕ} {x y : LoopInputs} → TakesFrom r wrapper n k l vs l₁ ws x
       → TakesInput r wrapper n k (getD ws k 0) x l₁ l′ y → i ≡ k + 1 → ws′ ≡ set ws k (y .entry) → TakesFrom r wrapper n i l vs l′ ws′ y
@@ -50,4 +50,4 @@ pub data TakesFrom (r wrapper n : ℕ) : ℕ → List ℕ → List ℕ → List 
 pub record TakesInputs (r wrapper n : ℕ) (l vs l′ ws : List ℕ) (h : ℕ) : Type 0 where
   pub last : LoopInputs
   pub taken : TakesFrom r wrapper n 4 l vs l′ ws last
-  pub cells : h ≡ last .cells
+  pub cells : h ≡ last .cells .0

@@ -7,6 +7,7 @@ use state_nodes::cells::Cell;
 use state_nodes::cells::add_cell;
 use state_sets::sets::target_input;
 use state_words::bundle_numbers::BundleNumber;
+use state_words::handles::Handle;
 use state_words::values::held;
 use state_words::values::input;
 use store::WORDS;
@@ -14,7 +15,7 @@ use store::WORDS;
 // The definition's LoopInputs, so far: how many are kept, and their cells; and the word of the last one's entry.
 pub struct LoopInputs {
     pub count: u16,
-    pub cells: u16,
+    pub cells: Handle,
     pub entry: u16,
 }
 
@@ -63,10 +64,11 @@ fn keep_input(
     requires { ⌜ x .count ≤ 4 ⌝ }
     ensures { λ a. ⌜ words.KeepsInput r wrapper k v x (now (w .entry)) (now (w .exit)) a ⌝ }
 {
+    let before = x.cells;
     let h = add_cell(
         w,
         Cell::Kept {
-            before: x.cells,
+            before,
             input: k,
             wrapper,
             back: v,
@@ -92,11 +94,12 @@ fn take_input(
     requires { ⌜ x .count ≤ 4 ⌝ }
     ensures { λ a. ⌜ words.TakesInput r wrapper n k v x (now (w .entry)) (now (w .exit)) a ⌝ }
 {
+    let cells = x.cells;
     if k < n {
         if v == input(r, k) {
             return LoopInputs {
                 count: x.count,
-                cells: x.cells,
+                cells,
                 entry: input(wrapper, k),
             };
         }
@@ -104,18 +107,18 @@ fn take_input(
     }
     LoopInputs {
         count: x.count,
-        cells: x.cells,
+        cells,
         entry: held(r, k),
     }
 }
 
 // The values become the words of the header's entry; the answer is the list of kept inputs.
-pub fn take_inputs(w: &mut [u16; WORDS], r: u16, wrapper: u16, n: u16, vs: &mut [u16; 4]) -> u16
-    ensures { λ a. ⌜ words.TakesInputs r wrapper n (now (w .entry)) (now (vs .entry)) (now (w .exit)) (now (vs .exit)) a ⌝ }
+pub fn take_inputs(w: &mut [u16; WORDS], r: u16, wrapper: u16, n: u16, vs: &mut [u16; 4]) -> Handle
+    ensures { λ a. ⌜ words.TakesInputs r wrapper n (now (w .entry)) (now (vs .entry)) (now (w .exit)) (now (vs .exit)) (a .0) ⌝ }
 {
     let mut x = LoopInputs {
         count: 0,
-        cells: 0,
+        cells: Handle(0),
         entry: 0,
     };
     let mut k: u16 = 0;

@@ -20,10 +20,11 @@ use state_words::defined::Defined;
 use state_words::defined::Made;
 use state_words::defined::define_node;
 use state_words::defined::define_region;
+use state_words::handles::Handle;
 use store::WORDS;
 
-fn add_loop(w: &mut [u16; WORDS], r: u16, node: u16, repeat: u16, kept: u16)
-    ensures { λ _. ⌜ words.AddsLoop r node repeat kept (now (w .entry)) (now (w .exit)) ⌝ }
+fn add_loop(w: &mut [u16; WORDS], r: u16, node: u16, repeat: u16, kept: Handle)
+    ensures { λ _. ⌜ words.AddsLoop r node repeat (kept .0) (now (w .entry)) (now (w .exit)) ⌝ }
 {
     let body = children(w, r);
     let h = add_cell(
@@ -40,8 +41,8 @@ fn add_loop(w: &mut [u16; WORDS], r: u16, node: u16, repeat: u16, kept: u16)
 }
 
 // The repeat condition, then the node.
-fn define_loop(w: &mut [u16; WORDS], r: u16, condition: u16, kept: u16) -> Made
-    ensures { λ a. ⌜ words.LoopDefined r condition kept (now (w .entry)) (now (w .exit)) a ⌝ }
+fn define_loop(w: &mut [u16; WORDS], r: u16, condition: u16, kept: Handle) -> Made
+    ensures { λ a. ⌜ words.LoopDefined r condition (kept .0) (now (w .entry)) (now (w .exit)) a ⌝ }
 {
     let Defined::Number(repeat) = materialize_lazy_cond(w, condition) else {
         return Made::Full;
@@ -54,8 +55,8 @@ fn define_loop(w: &mut [u16; WORDS], r: u16, condition: u16, kept: u16) -> Made
 }
 
 // The header's inputs, n of them: what the back edge passes is looked up, taken, and entered. The answer is the list of kept inputs.
-fn enter_inputs(w: &mut [u16; WORDS], r: u16, wrapper: u16, n: u16, vs: &mut [u16; 4]) -> u16
-    ensures { λ a. ⌜ words.EntersInputs r wrapper n (now (w .entry)) (now (vs .entry)) (now (w .exit)) a ⌝ }
+fn enter_inputs(w: &mut [u16; WORDS], r: u16, wrapper: u16, n: u16, vs: &mut [u16; 4]) -> Handle
+    ensures { λ a. ⌜ words.EntersInputs r wrapper n (now (w .entry)) (now (vs .entry)) (now (w .exit)) (a .0) ⌝ }
 {
     rewrite_values(w, vs, n);
     let kept = take_inputs(w, r, wrapper, n, vs);

@@ -24,7 +24,7 @@ use Rattle.state_words.specs.declared.defined.Made.the-variants.{Done, Full}
 use Rattle.cfg_select_nodes.specs.declared.define.Scrutinee.the-variants as scrutinee
 use Rattle.cfg_selects.specs.Into.{StructurizesInto}
 use Rattle.cfg_regions.specs.ByState.{backedge-at}
-use Rattle.state_nodes.specs.declared.cells.Cell.the-variants.{Blocks, Exit}
+use Rattle.state_nodes.specs.NodeTables.{Blocks, Exit}
 use Rattle.nesting.specs.Nesting.{most-nodes}
 use Rattle.state_words.specs.Rows.{bundle-count, kind-ready, no-bundle-word, nodes-at}
 

@@ -101,7 +101,7 @@ fn is_trivial(w: &[u16; WORDS], t: u16) -> bool
     if set_length(w, t) != 0 {
         return false;
     }
-    children(w, t) == 0
+    children(w, t).0 == 0
 }
 
 // How the edge to a region that was not claimed is answered.

@@ -33,6 +33,7 @@ use state_words::defined::Defined;
 use state_words::defined::Made;
 use state_words::defined::define_node;
 use state_words::edges::IncomingEdgeCount;
+use state_words::handles::Handle;
 use state_words::values::value_word;
 use store::WORDS;
 
@@ -41,7 +42,7 @@ fn add_blocks(w: &mut [u16; WORDS], r: u16)
     ensures { λ _. ⌜ OfRecord (now (w .entry)) (λ g. words.AddsBlocks g (now (w .entry)) r (now (w .exit))) ⌝ }
 {
     if fields::block_count(w, r) == 0 {
-        set_children(w, r, 0);
+        set_children(w, r, Handle(0));
         return;
     }
     let h = add_cell(w, Cell::Blocks { region: r });

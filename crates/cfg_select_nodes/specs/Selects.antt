@@ -8,7 +8,7 @@ use Rattle.state_words.specs.Sections.{word, stored, children}
 use Rattle.state_regions.specs.RegionTables.{case-total}
 use Rattle.state_nodes.specs.NodeTables.{Adds}
 use Rattle.state_words.specs.Totals.{Defines}
-use Rattle.state_nodes.specs.declared.cells.Cell.the-variants.{Case, Select}
+use Rattle.state_nodes.specs.NodeTables.{Case, Select}
 use Rattle.cfg_lookups.specs.Materialized.{Materializes}
 use Rattle.state_words.specs.declared.defined.Made.the-variants.{Done as MadeDone, Full as MadeFull}
 use Rattle.cfg_select_nodes.specs.declared.define.Scrutinee.{Scrutinee}

@@ -17,6 +17,7 @@ use state_regions::cases::set_case_body;
 use state_words::defined::Defined;
 use state_words::defined::Made;
 use state_words::defined::define_region;
+use state_words::handles::Handle;
 use store::WORDS;
 
 // The place of the one case that is not Unreachable; 8 if there are none or more.
@@ -39,13 +40,13 @@ pub fn convergent_case(w: &[u16; WORDS]) -> u16
 }
 
 // The children of case j; only a claimed region has some.
-pub fn children_of(w: &[u16; WORDS], j: u16) -> u16
-    ensures { λ a. ⌜ a ≡ words.«children-of» (now (w .entry)) j ⌝ }
+pub fn children_of(w: &[u16; WORDS], j: u16) -> Handle
+    ensures { λ a. ⌜ a .0 ≡ words.«children-of» (now (w .entry)) j ⌝ }
 {
     if case_kind(w, j) == CLAIMED_REGION {
         return case_children(w, j);
     }
-    0
+    Handle(0)
 }
 
 pub fn any_non_empty_case(w: &[u16; WORDS]) -> bool
@@ -54,7 +55,7 @@ pub fn any_non_empty_case(w: &[u16; WORDS]) -> bool
     let n = case_count(w);
     let mut j: u16 = 0;
     while j < n {
-        if children_of(w, j) != 0 {
+        if children_of(w, j).0 != 0 {
             return true;
         }
         j += 1;

@@ -13,6 +13,7 @@ use state_regions::regions::set_children;
 use state_words::defined::Defined;
 use state_words::defined::Made;
 use state_words::defined::define_node;
+use state_words::handles::Handle;
 use store::WORDS;
 
 // The Rust's Result<Value, &LazyCond>.
@@ -31,10 +32,10 @@ fn scrutinee_value(w: &mut [u16; WORDS], scrutinee: Scrutinee) -> Defined
 }
 
 // The cells of the cases, the last first.
-fn case_cells(w: &mut [u16; WORDS]) -> u16
-    ensures { λ a. ⌜ words.CaseCells (tables.«case-total» (now (w .entry))) 0 (now (w .entry)) (now (w .exit)) a ⌝ }
+fn case_cells(w: &mut [u16; WORDS]) -> Handle
+    ensures { λ a. ⌜ words.CaseCells (tables.«case-total» (now (w .entry))) 0 (now (w .entry)) (now (w .exit)) (a .0) ⌝ }
 {
-    let mut h: u16 = 0;
+    let mut h = Handle(0);
     let mut j = case_count(w);
     while 0 < j {
         j -= 1;
@@ -53,8 +54,8 @@ fn case_cells(w: &mut [u16; WORDS]) -> u16
 }
 
 // The select behind region r's children, and its cell.
-fn add_select(w: &mut [u16; WORDS], r: u16, node: u16, shape: u16, v: u16) -> u16
-    ensures { λ a. ⌜ words.SelectAdded r node shape v (now (w .entry)) (now (w .exit)) a ⌝ }
+fn add_select(w: &mut [u16; WORDS], r: u16, node: u16, shape: u16, v: u16) -> Handle
+    ensures { λ a. ⌜ words.SelectAdded r node shape v (now (w .entry)) (now (w .exit)) (a .0) ⌝ }
 {
     let cases = case_cells(w);
     let before = children(w, r);
@@ -85,5 +86,6 @@ pub fn define_select(w: &mut [u16; WORDS], r: u16, shape: u16, scrutinee: Scruti
     let Defined::Number(node) = define_node(w) else {
         return Defined::Full;
     };
-    Defined::Number(add_select(w, r, node, shape, v))
+    let h = add_select(w, r, node, shape, v);
+    Defined::Number(h.0)
 }

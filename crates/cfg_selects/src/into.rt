@@ -25,6 +25,7 @@ use state_sets::sets::swap_sets;
 use state_words::bundle_numbers::BundleNumber;
 use state_words::defined::Defined;
 use state_words::defined::Made;
+use state_words::handles::Handle;
 use store::WORDS;
 
 fn either(a: bool, b: bool) -> bool
@@ -44,7 +45,7 @@ fn select_if(w: &mut [u16; WORDS], needed: bool, r: u16, shape: u16, scrutinee: 
     }
     match define_select(w, r, shape, scrutinee) {
         Defined::Full => Made::Full,
-        Defined::Number(h) => emit_bundles(w, h),
+        Defined::Number(h) => emit_bundles(w, Handle(h)),
     }
 }
 

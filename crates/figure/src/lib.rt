@@ -15,6 +15,7 @@ use state_nodes::cells::join_list;
 use state_nodes::cells::loop_body;
 use state_nodes::cells::loop_header;
 use state_nodes::cells::select_cases;
+use state_words::handles::Handle;
 use store::WORDS;
 
 pub const TOO_LARGE: u64 = 4294967296;
@@ -68,12 +69,12 @@ fn larger(a: u64, b: u64) -> u64
 }
 
 // The dearest of a list of cases.
-fn dearest(w: &[u16; WORDS], cases: u16) -> u64
-    ensures { λ a. ⌜ figured.DearestFigured (now (w .entry)) cases a ⌝ }
+fn dearest(w: &[u16; WORDS], cases: Handle) -> u64
+    ensures { λ a. ⌜ figured.DearestFigured (now (w .entry)) (cases .0) a ⌝ }
 {
     let mut most: u64 = 0;
     let mut h = cases;
-    while 0 < h {
+    while 0 < h.0 {
         most = larger(most, figure(w, children_of_case(w, h)));
         h = cases_after(w, h);
     }
@@ -82,9 +83,9 @@ fn dearest(w: &[u16; WORDS], cases: u16) -> u64
 
 // What a cell adds: a block its instructions' sum; a select the test cost and its dearest case; a loop its turn limit times body and
 // test cost.
-fn cell_figure(w: &[u16; WORDS], h: u16) -> u64
-    requires { ⌜ 1 ≤ h ⌝ }
-    ensures { λ a. ⌜ figured.CellFigured (now (w .entry)) h a ⌝ }
+fn cell_figure(w: &[u16; WORDS], h: Handle) -> u64
+    requires { ⌜ 1 ≤ h .0 ⌝ }
+    ensures { λ a. ⌜ figured.CellFigured (now (w .entry)) (h .0) a ⌝ }
 {
     let tag = cell_tag(w, h);
     if tag == BLOCKS {
@@ -105,12 +106,12 @@ fn cell_figure(w: &[u16; WORDS], h: u16) -> u64
 }
 
 // A list of children their sum.
-pub fn figure(w: &[u16; WORDS], list: u16) -> u64
-    ensures { λ a. ⌜ figured.Figured (now (w .entry)) list a ⌝ }
+pub fn figure(w: &[u16; WORDS], list: Handle) -> u64
+    ensures { λ a. ⌜ figured.Figured (now (w .entry)) (list .0) a ⌝ }
 {
     let mut sum: u64 = 0;
     let mut h = list;
-    while 0 < h {
+    while 0 < h.0 {
         sum = held_at_limit(sum + cell_figure(w, h));
         h = list_before(w, h);
     }

@@ -12,12 +12,13 @@ use state_nodes::cells::cell_before;
 use state_nodes::cells::kept_back;
 use state_nodes::cells::kept_input;
 use state_nodes::cells::kept_wrapper;
+use state_words::handles::Handle;
 use state_words::values::input;
 use store::WORDS;
 
 // What is passed back at the end of a turn, or what is passed to the first one.
-fn kept_value(w: &[u16; WORDS], h: u16, back: bool) -> u16
-    ensures { λ a. ⌜ a ≡ kept.«kept-word» (now (w .entry)) back h ⌝ }
+fn kept_value(w: &[u16; WORDS], h: Handle, back: bool) -> u16
+    ensures { λ a. ⌜ a ≡ kept.«kept-word» (now (w .entry)) back (h .0) ⌝ }
 {
     if back {
         return kept_back(w, h);
@@ -26,14 +27,20 @@ fn kept_value(w: &[u16; WORDS], h: u16, back: bool) -> u16
 }
 
 // The outputs of the loop's body, or the loop's initial inputs.
-pub fn put_kept_values(w: &[u16; WORDS], out: &mut [u32], at: Place, list: u16, back: bool) -> Place
-    ensures { λ a. ⌜ OfState (now (w .entry)) (λ g s. (r : ℕ) (y : LoopInputs) → kept.KeepsInputs g (now (w .entry)) r list y
+pub fn put_kept_values(
+    w: &[u16; WORDS],
+    out: &mut [u32],
+    at: Place,
+    list: Handle,
+    back: bool,
+) -> Place
+    ensures { λ a. ⌜ OfState (now (w .entry)) (λ g s. (r : ℕ) (y : LoopInputs) → kept.KeepsInputs g (now (w .entry)) r (list .0) y
         → Puts (now (out .entry)) at (values-part s (kept.«kept-values» back y)) (now (out .exit)) a) ⌝ }
 {
     let mut to = at;
     let mut n: u16 = 0;
     let mut h = list;
-    while 0 < h {
+    while 0 < h.0 {
         to = put_value(w, out, to, kept_value(w, h, back));
         n += 1;
         h = cell_before(w, h);

@@ -15,11 +15,12 @@ use state_nodes::cells::loop_header;
 use state_nodes::cells::loop_kept;
 use state_nodes::cells::loop_node;
 use state_nodes::cells::loop_repeat;
+use state_words::handles::Handle;
 use store::WORDS;
 
 // Region, inputs' types, child nodes, outputs.
-fn put_body_line(w: &[u16; WORDS], out: &mut [u32], at: Place, h: u16) -> Place
-    ensures { λ a. ⌜ OfState (now (w .entry)) (λ g s. OfLoop g (now (w .entry)) h (λ x ns.
+fn put_body_line(w: &[u16; WORDS], out: &mut [u32], at: Place, h: Handle) -> Place
+    ensures { λ a. ⌜ OfState (now (w .entry)) (λ g s. OfLoop g (now (w .entry)) (h .0) (λ x ns.
         Puts (now (out .entry)) at (region-part s (x .body) (x .types) ns (x .outputs)) (now (out .exit)) a)) ⌝ }
 {
     let r = loop_header(w, h);
@@ -36,8 +37,8 @@ fn put_body_line(w: &[u16; WORDS], out: &mut [u32], at: Place, h: u16) -> Place
 }
 
 // Node, initial inputs, body region, repeat value.
-fn put_loop_line(w: &[u16; WORDS], out: &mut [u32], at: Place, h: u16) -> Place
-    ensures { λ a. ⌜ OfState (now (w .entry)) (λ g s. OfLoop g (now (w .entry)) h (λ x ns.
+fn put_loop_line(w: &[u16; WORDS], out: &mut [u32], at: Place, h: Handle) -> Place
+    ensures { λ a. ⌜ OfState (now (w .entry)) (λ g s. OfLoop g (now (w .entry)) (h .0) (λ x ns.
         Puts (now (out .entry)) at (loop-part s x) (now (out .exit)) a)) ⌝ }
 {
     let repeat = put_value(w, out, at, loop_repeat(w, h));
@@ -48,8 +49,8 @@ fn put_loop_line(w: &[u16; WORDS], out: &mut [u32], at: Place, h: u16) -> Place
 }
 
 // Of the loop that cell h adds: what stands before its body's nodes.
-pub fn put_loop_lines(w: &[u16; WORDS], out: &mut [u32], at: Place, h: u16) -> Place
-    ensures { λ a. ⌜ OfState (now (w .entry)) (λ g s. OfLoop g (now (w .entry)) h (λ x ns.
+pub fn put_loop_lines(w: &[u16; WORDS], out: &mut [u32], at: Place, h: Handle) -> Place
+    ensures { λ a. ⌜ OfState (now (w .entry)) (λ g s. OfLoop g (now (w .entry)) (h .0) (λ x ns.
         Puts (now (out .entry)) at (loop-lines s x ns) (now (out .exit)) a)) ⌝ }
 {
     let body = put_body_line(w, out, at, h);

@@ -26,11 +26,12 @@ use state_nodes::cells::join_list;
 use state_nodes::cells::loop_body;
 use state_nodes::cells::select_cases;
 use state_nodes::cells::select_node;
+use state_words::handles::Handle;
 use store::WORDS;
 
 // How many lists stand inside cell h.
-pub fn inner_total(w: &[u16; WORDS], h: u16) -> u16
-    ensures { λ a. ⌜ inside.InnerTotal (now (w .entry)) h a (rows.«cell-tag» (now (w .entry)) h) ⌝ }
+pub fn inner_total(w: &[u16; WORDS], h: Handle) -> u16
+    ensures { λ a. ⌜ inside.InnerTotal (now (w .entry)) (h .0) a (rows.«cell-tag» (now (w .entry)) (h .0)) ⌝ }
 {
     let tag = cell_tag(w, h);
     if tag == SELECT {
@@ -46,8 +47,8 @@ pub fn inner_total(w: &[u16; WORDS], h: u16) -> u16
 }
 
 // The list inside it at place j.
-pub fn inner_at(w: &[u16; WORDS], h: u16, j: u16) -> u16
-    ensures { λ a. ⌜ a ≡ inside.«inner-at» (now (w .entry)) h j ⌝ }
+pub fn inner_at(w: &[u16; WORDS], h: Handle, j: u16) -> Handle
+    ensures { λ a. ⌜ a .0 ≡ inside.«inner-at» (now (w .entry)) (h .0) j ⌝ }
 {
     let tag = cell_tag(w, h);
     if tag == SELECT {
@@ -61,18 +62,18 @@ pub fn inner_at(w: &[u16; WORDS], h: u16, j: u16) -> u16
 }
 
 // Whether a list is a loop alone: nothing stands before a loop.
-fn is_loop(w: &[u16; WORDS], list: u16) -> bool
-    ensures { λ a. ⌜ a ≡ inside.«is-loop» (now (w .entry)) list ⌝ }
+fn is_loop(w: &[u16; WORDS], list: Handle) -> bool
+    ensures { λ a. ⌜ a ≡ inside.«is-loop» (now (w .entry)) (list .0) ⌝ }
 {
-    if list == 0 {
+    if list.0 == 0 {
         return false;
     }
     cell_tag(w, list) == LOOP
 }
 
 // The list that is walked for a list: of a loop alone its body's.
-pub fn walked_list(w: &[u16; WORDS], list: u16) -> u16
-    ensures { λ a. ⌜ a ≡ inside.«walked-list» (now (w .entry)) list ⌝ }
+pub fn walked_list(w: &[u16; WORDS], list: Handle) -> Handle
+    ensures { λ a. ⌜ a .0 ≡ inside.«walked-list» (now (w .entry)) (list .0) ⌝ }
 {
     if is_loop(w, list) {
         return loop_body(w, list);
@@ -81,8 +82,8 @@ pub fn walked_list(w: &[u16; WORDS], list: u16) -> u16
 }
 
 // The lines before what was walked: of a loop alone, the loop's.
-fn put_walked_lines(w: &[u16; WORDS], out: &mut [u32], at: Place, list: u16) -> Place
-    ensures { λ a. ⌜ inside.WalkedLines (now (w .entry)) list (now (out .entry)) at (now (out .exit)) a ⌝ }
+fn put_walked_lines(w: &[u16; WORDS], out: &mut [u32], at: Place, list: Handle) -> Place
+    ensures { λ a. ⌜ inside.WalkedLines (now (w .entry)) (list .0) (now (out .entry)) at (now (out .exit)) a ⌝ }
 {
     if is_loop(w, list) {
         return put_loop_lines(w, out, at, list);
@@ -91,9 +92,9 @@ fn put_walked_lines(w: &[u16; WORDS], out: &mut [u32], at: Place, list: u16) -> 
 }
 
 // The line before a list inside: only a case has one.
-fn put_inner_line(w: &[u16; WORDS], out: &mut [u32], at: Place, h: u16, j: u16) -> Place
-    ensures { λ a. ⌜ inside.InnerLine (now (w .entry)) h j (now (out .entry)) at
-        (now (out .exit)) a (rows.«cell-tag» (now (w .entry)) h) ⌝ }
+fn put_inner_line(w: &[u16; WORDS], out: &mut [u32], at: Place, h: Handle, j: u16) -> Place
+    ensures { λ a. ⌜ inside.InnerLine (now (w .entry)) (h .0) j (now (out .entry)) at
+        (now (out .exit)) a (rows.«cell-tag» (now (w .entry)) (h .0)) ⌝ }
 {
     if cell_tag(w, h) == SELECT {
         let c = case_cell(w, select_cases(w, h), j);
@@ -103,8 +104,9 @@ fn put_inner_line(w: &[u16; WORDS], out: &mut [u32], at: Place, h: u16, j: u16) 
 }
 
 // The cell's own lines, before all that stands inside it.
-fn put_own_lines(w: &[u16; WORDS], out: &mut [u32], at: Place, h: u16) -> Place
-    ensures { λ a. ⌜ inside.OwnLines (now (w .entry)) h (now (out .entry)) at (now (out .exit)) a (rows.«cell-tag» (now (w .entry)) h) ⌝ }
+fn put_own_lines(w: &[u16; WORDS], out: &mut [u32], at: Place, h: Handle) -> Place
+    ensures { λ a. ⌜ inside.OwnLines (now (w .entry)) (h .0) (now (out .entry)) at
+        (now (out .exit)) a (rows.«cell-tag» (now (w .entry)) (h .0)) ⌝ }
 {
     let tag = cell_tag(w, h);
     if tag == BLOCKS {
@@ -123,8 +125,8 @@ fn put_own_lines(w: &[u16; WORDS], out: &mut [u32], at: Place, h: u16) -> Place
 }
 
 // The lines before what was walked for the list at place j - 1; with 0, the cell's own.
-pub fn put_cell_lines(w: &[u16; WORDS], out: &mut [u32], at: Place, h: u16, j: u16) -> Place
-    ensures { λ a. ⌜ inside.LinesPut (now (w .entry)) h j (now (out .entry)) at (now (out .exit)) a ⌝ }
+pub fn put_cell_lines(w: &[u16; WORDS], out: &mut [u32], at: Place, h: Handle, j: u16) -> Place
+    ensures { λ a. ⌜ inside.LinesPut (now (w .entry)) (h .0) j (now (out .entry)) at (now (out .exit)) a ⌝ }
 {
     if j == 0 {
         return put_own_lines(w, out, at, h);

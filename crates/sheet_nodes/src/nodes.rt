@@ -8,12 +8,13 @@ use crate::cell::put_cell_lines;
 use crate::cell::walked_list;
 use sheet_words::place::Place;
 use state_lists::list_before;
+use state_words::handles::Handle;
 use store::WORDS;
 
 // What cell h adds to its list: the last list inside it first, since words are put from the back.
-fn put_cell(w: &[u16; WORDS], out: &mut [u32], at: Place, h: u16) -> Place
-    requires { ⌜ 1 ≤ h ⌝ }
-    ensures { λ a. ⌜ walk.PutsCell (now (w .entry)) h (now (out .entry)) at (now (out .exit)) a ⌝ }
+fn put_cell(w: &[u16; WORDS], out: &mut [u32], at: Place, h: Handle) -> Place
+    requires { ⌜ 1 ≤ h .0 ⌝ }
+    ensures { λ a. ⌜ walk.PutsCell (now (w .entry)) (h .0) (now (out .entry)) at (now (out .exit)) a ⌝ }
 {
     let mut e = at;
     let mut j = inner_total(w, h);
@@ -27,12 +28,12 @@ fn put_cell(w: &[u16; WORDS], out: &mut [u32], at: Place, h: u16) -> Place
     put_cell_lines(w, out, e, h, 0)
 }
 
-pub fn put_nodes(w: &[u16; WORDS], out: &mut [u32], at: Place, list: u16) -> Place
-    ensures { λ a. ⌜ regions.PutsNodes (now (w .entry)) list (now (out .entry)) at (now (out .exit)) a ⌝ }
+pub fn put_nodes(w: &[u16; WORDS], out: &mut [u32], at: Place, list: Handle) -> Place
+    ensures { λ a. ⌜ regions.PutsNodes (now (w .entry)) (list .0) (now (out .entry)) at (now (out .exit)) a ⌝ }
 {
     let mut e = at;
     let mut h = list;
-    while 0 < h {
+    while 0 < h.0 {
         e = put_cell(w, out, e, h);
         h = list_before(w, h);
     }

@@ -7,6 +7,7 @@ use Rattle.meaning.specs.Runs.{Nodes}
 use Rattle.nesting.specs.Nesting.{LoopInputs, plain}
 use Rattle.nesting.specs.Sheet.{kids}
 use Rattle.nesting.specs.SheetNumbers.{lead-region}
+use Rattle.state_words.specs.declared.handles.Handle.{Handle}
 use Rattle.state_words.specs.Sections.{section, cells}
 use Rattle.state_shown.specs.Cells.{ShowsNodes}
 use Rattle.sheet_words.specs.declared.place.Place.{Place}
@@ -20,7 +21,7 @@ use Rattle.sheet_regions.specs.Kept.{KeepsInputs}
 pub data HasTypes (g : Graph) (w : List ℕ) (r : ℕ) : RegionInputs → List ℕ → Type 0 where
   no-types : HasTypes g w r None []
   all-types : HasTypes g w r All (region g r .inputs)
-  kept-types : {list : ℕ} (y : LoopInputs) → KeepsInputs g w r list y → HasTypes g w r (Kept list) (y .types)
+  kept-types : {list : Handle} (y : LoopInputs) → KeepsInputs g w r (list .0) y → HasTypes g w r (Kept list) (y .types)
 
 -- Lead, region, types, child nodes.
 abbrev pub region-front : ℕ → List ℕ → Nodes → List ℕ

@@ -18,6 +18,7 @@ use state_nodes::cells::blocks_region;
 use state_nodes::cells::cell_node;
 use state_nodes::cells::cell_tag;
 use state_nodes::cells::join_list;
+use state_words::handles::Handle;
 use store::WORDS;
 
 // Where the next number ends, and how many were put.
@@ -57,8 +58,8 @@ fn put_block_numbers(w: &[u16; WORDS], out: &mut [u32], x: Counted, r: u16) -> C
 }
 
 // What a cell adds to a list, but for another list.
-fn put_cell_numbers(w: &[u16; WORDS], out: &mut [u32], x: Counted, h: u16) -> Counted
-    ensures { λ a. ⌜ lists.PutsCellNumbers (now (w .entry)) h (now (out .entry)) x (now (out .exit)) a ⌝ }
+fn put_cell_numbers(w: &[u16; WORDS], out: &mut [u32], x: Counted, h: Handle) -> Counted
+    ensures { λ a. ⌜ lists.PutsCellNumbers (now (w .entry)) (h .0) (now (out .entry)) x (now (out .exit)) a ⌝ }
 {
     if cell_tag(w, h) == BLOCKS {
         return put_block_numbers(w, out, x, blocks_region(w, h));
@@ -66,12 +67,12 @@ fn put_cell_numbers(w: &[u16; WORDS], out: &mut [u32], x: Counted, h: u16) -> Co
     put_number(out, x, cell_node(w, h) as u32)
 }
 
-fn put_numbers(w: &[u16; WORDS], out: &mut [u32], x: Counted, list: u16) -> Counted
-    ensures { λ a. ⌜ lists.PutsList (now (w .entry)) list (now (out .entry)) x (now (out .exit)) a ⌝ }
+fn put_numbers(w: &[u16; WORDS], out: &mut [u32], x: Counted, list: Handle) -> Counted
+    ensures { λ a. ⌜ lists.PutsList (now (w .entry)) (list .0) (now (out .entry)) x (now (out .exit)) a ⌝ }
 {
     let mut y = x;
     let mut h = list;
-    while 0 < h {
+    while 0 < h.0 {
         if cell_tag(w, h) == JOIN {
             y = put_numbers(w, out, y, join_list(w, h));
         } else {
@@ -82,8 +83,8 @@ fn put_numbers(w: &[u16; WORDS], out: &mut [u32], x: Counted, list: u16) -> Coun
     y
 }
 
-pub fn put_kids(w: &[u16; WORDS], out: &mut [u32], at: Place, list: u16) -> Place
-    ensures { λ a. ⌜ lists.PutsKids (now (w .entry)) list (now (out .entry)) at (now (out .exit)) a ⌝ }
+pub fn put_kids(w: &[u16; WORDS], out: &mut [u32], at: Place, list: Handle) -> Place
+    ensures { λ a. ⌜ lists.PutsKids (now (w .entry)) (list .0) (now (out .entry)) at (now (out .exit)) a ⌝ }
 {
     let x = put_numbers(w, out, Counted { at, count: 0 }, list);
     put(out, x.at, x.count)

@@ -6,13 +6,14 @@ use crate::types::put_kept_types;
 use sheet_words::leads::REGION_LINE;
 use sheet_words::place::Place;
 use sheet_words::place::put_word;
+use state_words::handles::Handle;
 use store::WORDS;
 
 // The inputs that a line names: a case's region has none, a piece of the answer all of the record's, a loop's body those that are kept.
 pub enum RegionInputs {
     None,
     All,
-    Kept(u16),
+    Kept(Handle),
 }
 
 fn put_types(w: &[u16; WORDS], out: &mut [u32], at: Place, r: u16, inputs: RegionInputs) -> Place
@@ -31,9 +32,9 @@ pub fn put_region_line(
     at: Place,
     r: u16,
     inputs: RegionInputs,
-    list: u16,
+    list: Handle,
 ) -> Place
-    ensures { λ a. ⌜ line.PutsRegionLine (now (w .entry)) r inputs list (now (out .entry)) at (now (out .exit)) a ⌝ }
+    ensures { λ a. ⌜ line.PutsRegionLine (now (w .entry)) r inputs (list .0) (now (out .entry)) at (now (out .exit)) a ⌝ }
 {
     let kids = put_kids(w, out, at, list);
     let types = put_types(w, out, kids, r, inputs);

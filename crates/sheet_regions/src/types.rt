@@ -11,6 +11,7 @@ use sheet_words::place::Place;
 use sheet_words::place::put_word;
 use state_nodes::cells::cell_before;
 use state_nodes::cells::kept_input;
+use state_words::handles::Handle;
 use store::WORDS;
 
 // Of all that the record gives region r.
@@ -29,14 +30,14 @@ pub fn put_all_types(w: &[u16; WORDS], out: &mut [u32], at: Place, r: u16) -> Pl
 }
 
 // Of those that a loop keeps of its header r's, along their cells.
-pub fn put_kept_types(w: &[u16; WORDS], out: &mut [u32], at: Place, list: u16, r: u16) -> Place
-    ensures { λ a. ⌜ OfState (now (w .entry)) (λ g s. (y : LoopInputs) → kept.KeepsInputs g (now (w .entry)) r list y
+pub fn put_kept_types(w: &[u16; WORDS], out: &mut [u32], at: Place, list: Handle, r: u16) -> Place
+    ensures { λ a. ⌜ OfState (now (w .entry)) (λ g s. (y : LoopInputs) → kept.KeepsInputs g (now (w .entry)) r (list .0) y
         → Puts (now (out .entry)) at (plain (length (y .types) ∷ y .types)) (now (out .exit)) a) ⌝ }
 {
     let mut to = at;
     let mut n: u16 = 0;
     let mut h = list;
-    while 0 < h {
+    while 0 < h.0 {
         to = put_word(out, to, fields::input_type(w, r, kept_input(w, h)));
         n += 1;
         h = cell_before(w, h);

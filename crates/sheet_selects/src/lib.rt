@@ -28,6 +28,7 @@ use state_nodes::outputs::output_count;
 use state_nodes::outputs::output_node;
 use state_nodes::outputs::output_type;
 use state_nodes::outputs::output_value;
+use state_words::handles::Handle;
 use store::WORDS;
 
 // ---- The outputs of a node: their values in the case at place j, and their types. Each list has its count in front.
@@ -64,18 +65,18 @@ fn put_output_types(w: &[u16; WORDS], out: &mut [u32], at: Place, node: u16) -> 
 }
 
 // ---- The regions of cases: those after the first are put before it.
-fn put_regions(w: &[u16; WORDS], out: &mut [u32], x: Counted, list: u16) -> Counted
-    ensures { λ a. ⌜ numbers.PutsRegions (now (w .entry)) list (now (out .entry)) x (now (out .exit)) a ⌝ }
+fn put_regions(w: &[u16; WORDS], out: &mut [u32], x: Counted, list: Handle) -> Counted
+    ensures { λ a. ⌜ numbers.PutsRegions (now (w .entry)) (list .0) (now (out .entry)) x (now (out .exit)) a ⌝ }
 {
-    if list == 0 {
+    if list.0 == 0 {
         return x;
     }
     let y = put_regions(w, out, x, cases_after(w, list));
     put_number(out, y, case_region(w, list) as u32)
 }
 
-fn put_case_numbers(w: &[u16; WORDS], out: &mut [u32], at: Place, list: u16) -> Place
-    ensures { λ a. ⌜ numbers.PutsCaseNumbers (now (w .entry)) list (now (out .entry)) at (now (out .exit)) a ⌝ }
+fn put_case_numbers(w: &[u16; WORDS], out: &mut [u32], at: Place, list: Handle) -> Place
+    ensures { λ a. ⌜ numbers.PutsCaseNumbers (now (w .entry)) (list .0) (now (out .entry)) at (now (out .exit)) a ⌝ }
 {
     let x = put_regions(w, out, Counted { at, count: 0 }, list);
     put(out, x.at, x.count)
@@ -96,11 +97,11 @@ pub fn put_case_line(
     w: &[u16; WORDS],
     out: &mut [u32],
     at: Place,
-    h: u16,
+    h: Handle,
     node: u16,
     j: u16,
 ) -> Place
-    ensures { λ a. ⌜ lines.PutsCaseLine (now (w .entry)) h node j (now (out .entry)) at (now (out .exit)) a ⌝ }
+    ensures { λ a. ⌜ lines.PutsCaseLine (now (w .entry)) (h .0) node j (now (out .entry)) at (now (out .exit)) a ⌝ }
 {
     let outputs = put_case_outputs(w, out, at, node, j);
     let r = case_region(w, h);
@@ -109,8 +110,8 @@ pub fn put_case_line(
 }
 
 // The line of a select, without those of its cases.
-pub fn put_select_line(w: &[u16; WORDS], out: &mut [u32], at: Place, h: u16) -> Place
-    ensures { λ a. ⌜ lines.PutsSelectLine (now (w .entry)) h (now (out .entry)) at (now (out .exit)) a ⌝ }
+pub fn put_select_line(w: &[u16; WORDS], out: &mut [u32], at: Place, h: Handle) -> Place
+    ensures { λ a. ⌜ lines.PutsSelectLine (now (w .entry)) (h .0) (now (out .entry)) at (now (out .exit)) a ⌝ }
 {
     let node = select_node(w, h);
     let types = put_output_types(w, out, at, node);

@@ -5,25 +5,26 @@ use state_nodes::cells::LOOP;
 use state_nodes::cells::cases_after;
 use state_nodes::cells::cell_before;
 use state_nodes::cells::cell_tag;
+use state_words::handles::Handle;
 use store::WORDS;
 
 // The list before a cell; a loop stands alone, and what it names there is its body.
-pub fn list_before(w: &[u16; WORDS], h: u16) -> u16
-    ensures { λ a. ⌜ a ≡ cells.«list-before» (now (w .entry)) h ⌝ }
+pub fn list_before(w: &[u16; WORDS], h: Handle) -> Handle
+    ensures { λ a. ⌜ a .0 ≡ cells.«list-before» (now (w .entry)) (h .0) ⌝ }
 {
     if cell_tag(w, h) == LOOP {
-        return 0;
+        return Handle(0);
     }
     cell_before(w, h)
 }
 
 // How many cases there are from cell `list` on.
-pub fn case_total(w: &[u16; WORDS], list: u16) -> u16
-    ensures { λ a. ⌜ cells.CaseTotal (now (w .entry)) list a ⌝ }
+pub fn case_total(w: &[u16; WORDS], list: Handle) -> u16
+    ensures { λ a. ⌜ cells.CaseTotal (now (w .entry)) (list .0) a ⌝ }
 {
     let mut h = list;
     let mut n: u16 = 0;
-    while 0 < h {
+    while 0 < h.0 {
         h = cases_after(w, h);
         n += 1;
     }
@@ -31,8 +32,8 @@ pub fn case_total(w: &[u16; WORDS], list: u16) -> u16
 }
 
 // The cell of the case at place j of them.
-pub fn case_cell(w: &[u16; WORDS], list: u16, j: u16) -> u16
-    ensures { λ a. ⌜ a ≡ cells.«case-cell» (now (w .entry)) list j ⌝ }
+pub fn case_cell(w: &[u16; WORDS], list: Handle, j: u16) -> Handle
+    ensures { λ a. ⌜ a .0 ≡ cells.«case-cell» (now (w .entry)) (list .0) j ⌝ }
 {
     let mut h = list;
     let mut i: u16 = 0;

@@ -7,7 +7,7 @@ use lib.Dec.{ltb, eqb}
 use Rattle.state_words.specs.declared.defined.Defined.{Defined}
 use Rattle.state_words.specs.declared.defined.Defined.the-variants.{Number, Full}
 use Rattle.state_nodes.specs.declared.cells.Cell.{Cell}
-use Rattle.state_nodes.specs.declared.cells.Cell.the-variants.{Blocks, Join, Exit, Select, Loop, Case as CaseCell, Kept}
+use Rattle.state_nodes.specs.declared.cells.Cell.the-variants as cell
 use Rattle.state_words.specs.Sections.{section, word, stored, stored-all, filled, head, cells, rewrites}
 use Rattle.state_words.specs.Sections.{outputs, conditions}
 use Rattle.meaning.specs.Lists.{pick}
@@ -28,13 +28,35 @@ shape-size shape = pick (eqb shape bool-shape) 2 (pick (ltb shape 8) shape 8)
 
 -- The six words of a cell: its tag, the list before it (of a loop: its body's; of a case: the cases after it), and what its tag has.
 abbrev pub cell-words : Cell → List ℕ
-cell-words (Blocks region) = tag-blocks ∷ 0 ∷ region ∷ 0 ∷ 0 ∷ 0 ∷ []
-cell-words (Join before list) = tag-join ∷ before ∷ list ∷ 0 ∷ 0 ∷ 0 ∷ []
-cell-words (Exit before node region) = tag-exit ∷ before ∷ node ∷ region ∷ 0 ∷ 0 ∷ []
-cell-words (Select before node shape scrutinee list) = tag-select ∷ before ∷ node ∷ shape ∷ scrutinee ∷ list ∷ []
-cell-words (Loop body node header repeat kept) = tag-loop ∷ body ∷ node ∷ header ∷ repeat ∷ kept ∷ []
-cell-words (CaseCell after region children) = tag-case ∷ after ∷ region ∷ children ∷ 0 ∷ 0 ∷ []
-cell-words (Kept before input wrapper back) = tag-kept ∷ before ∷ input ∷ wrapper ∷ back ∷ 0 ∷ []
+cell-words (cell.Blocks region) = tag-blocks ∷ 0 ∷ region ∷ 0 ∷ 0 ∷ 0 ∷ []
+cell-words (cell.Join before list) = tag-join ∷ before .0 ∷ list .0 ∷ 0 ∷ 0 ∷ 0 ∷ []
+cell-words (cell.Exit before node region) = tag-exit ∷ before .0 ∷ node ∷ region ∷ 0 ∷ 0 ∷ []
+cell-words (cell.Select before node shape scrutinee list) = tag-select ∷ before .0 ∷ node ∷ shape ∷ scrutinee ∷ list .0 ∷ []
+cell-words (cell.Loop body node header repeat kept) = tag-loop ∷ body .0 ∷ node ∷ header ∷ repeat ∷ kept .0 ∷ []
+cell-words (cell.Case after region children) = tag-case ∷ after .0 ∷ region ∷ children .0 ∷ 0 ∷ 0 ∷ []
+cell-words (cell.Kept before input wrapper back) = tag-kept ∷ before .0 ∷ input ∷ wrapper ∷ back ∷ 0 ∷ []
+
+-- A cell by numbers: of its lists the handles' numbers.
+abbrev pub Blocks : ℕ → Cell
+Blocks r = cell.Blocks r
+
+abbrev pub Join : ℕ → ℕ → Cell
+Join p q = cell.Join (record { 0 = p }) (record { 0 = q })
+
+abbrev pub Exit : ℕ → ℕ → ℕ → Cell
+Exit p n r = cell.Exit (record { 0 = p }) n r
+
+abbrev pub Select : ℕ → ℕ → ℕ → ℕ → ℕ → Cell
+Select p n shape x q = cell.Select (record { 0 = p }) n shape x (record { 0 = q })
+
+abbrev pub Loop : ℕ → ℕ → ℕ → ℕ → ℕ → Cell
+Loop p n r x q = cell.Loop (record { 0 = p }) n r x (record { 0 = q })
+
+abbrev pub Case : ℕ → ℕ → ℕ → Cell
+Case p r q = cell.Case (record { 0 = p }) r (record { 0 = q })
+
+abbrev pub Kept : ℕ → ℕ → ℕ → ℕ → Cell
+Kept p k wrapper x = cell.Kept (record { 0 = p }) k wrapper x
 
 -- A cell more, at the handle that the head counts.
 pub data Adds (l l′ : List ℕ) (x : Cell) (h : ℕ) : Type 0 where

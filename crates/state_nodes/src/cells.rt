@@ -7,6 +7,7 @@ ghost use Rattle.state_nodes.specs.NodeTables as tables;
 use state_words::defined::CELL_TOTAL;
 use state_words::defined::head;
 use state_words::defined::set_head;
+use state_words::handles::Handle;
 use state_words::sections::CELLS;
 use state_words::sections::get;
 use state_words::sections::put_all;
@@ -41,199 +42,199 @@ pub enum Cell {
         region: u16,
     },
     Join {
-        before: u16,
-        list: u16,
+        before: Handle,
+        list: Handle,
     },
     Exit {
-        before: u16,
+        before: Handle,
         node: u16,
         region: u16,
     },
     Select {
-        before: u16,
+        before: Handle,
         node: u16,
         shape: u16,
         scrutinee: u16,
-        cases: u16,
+        cases: Handle,
     },
     // Nothing stands before a loop: its body's children take that place.
     Loop {
-        body: u16,
+        body: Handle,
         node: u16,
         header: u16,
         repeat: u16,
-        kept: u16,
+        kept: Handle,
     },
     Case {
-        after: u16,
+        after: Handle,
         region: u16,
-        children: u16,
+        children: Handle,
     },
     // The number of the input, the wrapper region, and the value that is passed back.
     Kept {
-        before: u16,
+        before: Handle,
         input: u16,
         wrapper: u16,
         back: u16,
     },
 }
 
-fn cell_word(w: &[u16; WORDS], h: u16, i: usize) -> u16
+fn cell_word(w: &[u16; WORDS], h: Handle, i: usize) -> u16
     requires { ⌜ i ≤ 65600 ⌝ }
-    ensures { λ a. ⌜ a ≡ rows.«cell-word» (now (w .entry)) h i ⌝ }
+    ensures { λ a. ⌜ a ≡ rows.«cell-word» (now (w .entry)) (h .0) i ⌝ }
 {
-    get(w, CELLS, ROW * (h as usize) + i)
+    get(w, CELLS, ROW * (h.0 as usize) + i)
 }
 
 // An earlier handle.
-fn earlier(p: u16, h: u16) -> u16
-    ensures { λ a. ⌜ a ≡ rows.earlier p h ⌝ }
+fn earlier(p: u16, h: Handle) -> Handle
+    ensures { λ a. ⌜ a .0 ≡ rows.earlier p (h .0) ⌝ }
 {
-    if p < h {
-        return p;
+    if p < h.0 {
+        return Handle(p);
     }
-    0
+    Handle(0)
 }
 
 // The list that a cell names at one of its words.
-fn list_word(w: &[u16; WORDS], h: u16, i: usize) -> u16
+fn list_word(w: &[u16; WORDS], h: Handle, i: usize) -> Handle
     requires { ⌜ i ≤ 65600 ⌝ }
-    ensures { λ a. ⌜ a ≡ rows.earlier (rows.«cell-word» (now (w .entry)) h i) h ⌝ }
+    ensures { λ a. ⌜ a .0 ≡ rows.earlier (rows.«cell-word» (now (w .entry)) (h .0) i) (h .0) ⌝ }
 {
     earlier(cell_word(w, h, i), h)
 }
 
-pub fn cell_tag(w: &[u16; WORDS], h: u16) -> u16
-    ensures { λ a. ⌜ a ≡ rows.«cell-tag» (now (w .entry)) h ⌝ }
+pub fn cell_tag(w: &[u16; WORDS], h: Handle) -> u16
+    ensures { λ a. ⌜ a ≡ rows.«cell-tag» (now (w .entry)) (h .0) ⌝ }
 {
     cell_word(w, h, 0)
 }
 
 // The list that a cell follows.
-pub fn cell_before(w: &[u16; WORDS], h: u16) -> u16
-    ensures { λ a. ⌜ a ≡ rows.«cell-before» (now (w .entry)) h ⌝ }
+pub fn cell_before(w: &[u16; WORDS], h: Handle) -> Handle
+    ensures { λ a. ⌜ a .0 ≡ rows.«cell-before» (now (w .entry)) (h .0) ⌝ }
 {
     list_word(w, h, 1)
 }
 
 // The node of an exit, a select or a loop.
-pub fn cell_node(w: &[u16; WORDS], h: u16) -> u16
-    ensures { λ a. ⌜ a ≡ rows.«cell-node» (now (w .entry)) h ⌝ }
+pub fn cell_node(w: &[u16; WORDS], h: Handle) -> u16
+    ensures { λ a. ⌜ a ≡ rows.«cell-node» (now (w .entry)) (h .0) ⌝ }
 {
     cell_word(w, h, 2)
 }
 
-pub fn blocks_region(w: &[u16; WORDS], h: u16) -> u16
-    ensures { λ a. ⌜ a ≡ rows.«blocks-region» (now (w .entry)) h ⌝ }
+pub fn blocks_region(w: &[u16; WORDS], h: Handle) -> u16
+    ensures { λ a. ⌜ a ≡ rows.«blocks-region» (now (w .entry)) (h .0) ⌝ }
 {
     cell_word(w, h, 2)
 }
 
-pub fn join_list(w: &[u16; WORDS], h: u16) -> u16
-    ensures { λ a. ⌜ a ≡ rows.«join-list» (now (w .entry)) h ⌝ }
+pub fn join_list(w: &[u16; WORDS], h: Handle) -> Handle
+    ensures { λ a. ⌜ a .0 ≡ rows.«join-list» (now (w .entry)) (h .0) ⌝ }
 {
     list_word(w, h, 2)
 }
 
-pub fn exit_node(w: &[u16; WORDS], h: u16) -> u16
-    ensures { λ a. ⌜ a ≡ rows.«exit-node» (now (w .entry)) h ⌝ }
+pub fn exit_node(w: &[u16; WORDS], h: Handle) -> u16
+    ensures { λ a. ⌜ a ≡ rows.«exit-node» (now (w .entry)) (h .0) ⌝ }
 {
     cell_word(w, h, 2)
 }
 
-pub fn exit_region(w: &[u16; WORDS], h: u16) -> u16
-    ensures { λ a. ⌜ a ≡ rows.«exit-region» (now (w .entry)) h ⌝ }
+pub fn exit_region(w: &[u16; WORDS], h: Handle) -> u16
+    ensures { λ a. ⌜ a ≡ rows.«exit-region» (now (w .entry)) (h .0) ⌝ }
 {
     cell_word(w, h, 3)
 }
 
-pub fn select_node(w: &[u16; WORDS], h: u16) -> u16
-    ensures { λ a. ⌜ a ≡ rows.«select-node» (now (w .entry)) h ⌝ }
+pub fn select_node(w: &[u16; WORDS], h: Handle) -> u16
+    ensures { λ a. ⌜ a ≡ rows.«select-node» (now (w .entry)) (h .0) ⌝ }
 {
     cell_word(w, h, 2)
 }
 
-pub fn select_shape(w: &[u16; WORDS], h: u16) -> u16
-    ensures { λ a. ⌜ a ≡ rows.«select-shape» (now (w .entry)) h ⌝ }
+pub fn select_shape(w: &[u16; WORDS], h: Handle) -> u16
+    ensures { λ a. ⌜ a ≡ rows.«select-shape» (now (w .entry)) (h .0) ⌝ }
 {
     cell_word(w, h, 3)
 }
 
-pub fn select_scrutinee(w: &[u16; WORDS], h: u16) -> u16
-    ensures { λ a. ⌜ a ≡ rows.«select-scrutinee» (now (w .entry)) h ⌝ }
+pub fn select_scrutinee(w: &[u16; WORDS], h: Handle) -> u16
+    ensures { λ a. ⌜ a ≡ rows.«select-scrutinee» (now (w .entry)) (h .0) ⌝ }
 {
     cell_word(w, h, 4)
 }
 
-pub fn select_cases(w: &[u16; WORDS], h: u16) -> u16
-    ensures { λ a. ⌜ a ≡ rows.«select-cases» (now (w .entry)) h ⌝ }
+pub fn select_cases(w: &[u16; WORDS], h: Handle) -> Handle
+    ensures { λ a. ⌜ a .0 ≡ rows.«select-cases» (now (w .entry)) (h .0) ⌝ }
 {
     list_word(w, h, 5)
 }
 
 // The children of a loop's body.
-pub fn loop_body(w: &[u16; WORDS], h: u16) -> u16
-    ensures { λ a. ⌜ a ≡ rows.«loop-body» (now (w .entry)) h ⌝ }
+pub fn loop_body(w: &[u16; WORDS], h: Handle) -> Handle
+    ensures { λ a. ⌜ a .0 ≡ rows.«loop-body» (now (w .entry)) (h .0) ⌝ }
 {
     list_word(w, h, 1)
 }
 
-pub fn loop_node(w: &[u16; WORDS], h: u16) -> u16
-    ensures { λ a. ⌜ a ≡ rows.«loop-node» (now (w .entry)) h ⌝ }
+pub fn loop_node(w: &[u16; WORDS], h: Handle) -> u16
+    ensures { λ a. ⌜ a ≡ rows.«loop-node» (now (w .entry)) (h .0) ⌝ }
 {
     cell_word(w, h, 2)
 }
 
-pub fn loop_header(w: &[u16; WORDS], h: u16) -> u16
-    ensures { λ a. ⌜ a ≡ rows.«loop-header» (now (w .entry)) h ⌝ }
+pub fn loop_header(w: &[u16; WORDS], h: Handle) -> u16
+    ensures { λ a. ⌜ a ≡ rows.«loop-header» (now (w .entry)) (h .0) ⌝ }
 {
     cell_word(w, h, 3)
 }
 
-pub fn loop_repeat(w: &[u16; WORDS], h: u16) -> u16
-    ensures { λ a. ⌜ a ≡ rows.«loop-repeat» (now (w .entry)) h ⌝ }
+pub fn loop_repeat(w: &[u16; WORDS], h: Handle) -> u16
+    ensures { λ a. ⌜ a ≡ rows.«loop-repeat» (now (w .entry)) (h .0) ⌝ }
 {
     cell_word(w, h, 4)
 }
 
-pub fn loop_kept(w: &[u16; WORDS], h: u16) -> u16
-    ensures { λ a. ⌜ a ≡ rows.«loop-kept» (now (w .entry)) h ⌝ }
+pub fn loop_kept(w: &[u16; WORDS], h: Handle) -> Handle
+    ensures { λ a. ⌜ a .0 ≡ rows.«loop-kept» (now (w .entry)) (h .0) ⌝ }
 {
     list_word(w, h, 5)
 }
 
-pub fn cases_after(w: &[u16; WORDS], h: u16) -> u16
-    ensures { λ a. ⌜ a ≡ rows.«cases-after» (now (w .entry)) h ⌝ }
+pub fn cases_after(w: &[u16; WORDS], h: Handle) -> Handle
+    ensures { λ a. ⌜ a .0 ≡ rows.«cases-after» (now (w .entry)) (h .0) ⌝ }
 {
     list_word(w, h, 1)
 }
 
-pub fn case_region(w: &[u16; WORDS], h: u16) -> u16
-    ensures { λ a. ⌜ a ≡ rows.«case-region» (now (w .entry)) h ⌝ }
+pub fn case_region(w: &[u16; WORDS], h: Handle) -> u16
+    ensures { λ a. ⌜ a ≡ rows.«case-region» (now (w .entry)) (h .0) ⌝ }
 {
     cell_word(w, h, 2)
 }
 
-pub fn children_of_case(w: &[u16; WORDS], h: u16) -> u16
-    ensures { λ a. ⌜ a ≡ rows.«children-of-case» (now (w .entry)) h ⌝ }
+pub fn children_of_case(w: &[u16; WORDS], h: Handle) -> Handle
+    ensures { λ a. ⌜ a .0 ≡ rows.«children-of-case» (now (w .entry)) (h .0) ⌝ }
 {
     list_word(w, h, 3)
 }
 
-pub fn kept_input(w: &[u16; WORDS], h: u16) -> u16
-    ensures { λ a. ⌜ a ≡ rows.«kept-input» (now (w .entry)) h ⌝ }
+pub fn kept_input(w: &[u16; WORDS], h: Handle) -> u16
+    ensures { λ a. ⌜ a ≡ rows.«kept-input» (now (w .entry)) (h .0) ⌝ }
 {
     cell_word(w, h, 2)
 }
 
-pub fn kept_wrapper(w: &[u16; WORDS], h: u16) -> u16
-    ensures { λ a. ⌜ a ≡ rows.«kept-wrapper» (now (w .entry)) h ⌝ }
+pub fn kept_wrapper(w: &[u16; WORDS], h: Handle) -> u16
+    ensures { λ a. ⌜ a ≡ rows.«kept-wrapper» (now (w .entry)) (h .0) ⌝ }
 {
     cell_word(w, h, 3)
 }
 
-pub fn kept_back(w: &[u16; WORDS], h: u16) -> u16
-    ensures { λ a. ⌜ a ≡ rows.«kept-back» (now (w .entry)) h ⌝ }
+pub fn kept_back(w: &[u16; WORDS], h: Handle) -> u16
+    ensures { λ a. ⌜ a ≡ rows.«kept-back» (now (w .entry)) (h .0) ⌝ }
 {
     cell_word(w, h, 4)
 }
@@ -244,43 +245,43 @@ fn cell_words(x: Cell) -> [u16; 6]
 {
     match x {
         Cell::Blocks { region } => [BLOCKS, 0, region, 0, 0, 0],
-        Cell::Join { before, list } => [JOIN, before, list, 0, 0, 0],
+        Cell::Join { before, list } => [JOIN, before.0, list.0, 0, 0, 0],
         Cell::Exit {
             before,
             node,
             region,
-        } => [EXIT, before, node, region, 0, 0],
+        } => [EXIT, before.0, node, region, 0, 0],
         Cell::Select {
             before,
             node,
             shape,
             scrutinee,
             cases,
-        } => [SELECT, before, node, shape, scrutinee, cases],
+        } => [SELECT, before.0, node, shape, scrutinee, cases.0],
         Cell::Loop {
             body,
             node,
             header,
             repeat,
             kept,
-        } => [LOOP, body, node, header, repeat, kept],
+        } => [LOOP, body.0, node, header, repeat, kept.0],
         Cell::Case {
             after,
             region,
             children,
-        } => [CASE, after, region, children, 0, 0],
+        } => [CASE, after.0, region, children.0, 0, 0],
         Cell::Kept {
             before,
             input,
             wrapper,
             back,
-        } => [KEPT, before, input, wrapper, back, 0],
+        } => [KEPT, before.0, input, wrapper, back, 0],
     }
 }
 
 // A cell more, and its handle. There is room for every cell that a nesting can make.
-pub fn add_cell(w: &mut [u16; WORDS], x: Cell) -> u16
-    ensures { λ a. ⌜ tables.Adds (now (w .entry)) (now (w .exit)) x a ⌝ }
+pub fn add_cell(w: &mut [u16; WORDS], x: Cell) -> Handle
+    ensures { λ a. ⌜ tables.Adds (now (w .entry)) (now (w .exit)) x (a .0) ⌝ }
 {
     let n = head(w, CELL_TOTAL);
     if n < MOST_CELLS {
@@ -288,19 +289,19 @@ pub fn add_cell(w: &mut [u16; WORDS], x: Cell) -> u16
         let xs = cell_words(x);
         put_all(w, CELLS, at, &xs);
         set_head(w, CELL_TOTAL, n + 1);
-        return n;
+        return Handle(n);
     }
-    0
+    Handle(0)
 }
 
 // A list behind another; no cell where one is empty.
-pub fn join(w: &mut [u16; WORDS], a: u16, b: u16) -> u16
-    ensures { λ h. ⌜ tables.Joins (now (w .entry)) (now (w .exit)) a b h ⌝ }
+pub fn join(w: &mut [u16; WORDS], a: Handle, b: Handle) -> Handle
+    ensures { λ h. ⌜ tables.Joins (now (w .entry)) (now (w .exit)) (a .0) (b .0) (h .0) ⌝ }
 {
-    if a == 0 {
+    if a.0 == 0 {
         return b;
     }
-    if b == 0 {
+    if b.0 == 0 {
         return a;
     }
     add_cell(w, Cell::Join { before: a, list: b })

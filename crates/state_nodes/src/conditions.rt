@@ -13,6 +13,7 @@ use state_words::defined::MERGES;
 use state_words::defined::MOST_MERGES;
 use state_words::defined::head;
 use state_words::defined::set_head;
+use state_words::handles::Handle;
 use state_words::sections::CONDITIONS;
 use state_words::sections::get;
 use state_words::sections::put;
@@ -42,10 +43,10 @@ fn cond_word(w: &[u16; WORDS], c: u16, i: usize) -> u16
 }
 
 // The cell of its select, where node, shape and scrutinee stand.
-fn cond_select(w: &[u16; WORDS], c: u16) -> u16
-    ensures { λ a. ⌜ a ≡ rows.«merge-select» (now (w .entry)) c ⌝ }
+fn cond_select(w: &[u16; WORDS], c: u16) -> Handle
+    ensures { λ a. ⌜ a .0 ≡ rows.«merge-select» (now (w .entry)) c ⌝ }
 {
-    cond_word(w, c, 0)
+    Handle(cond_word(w, c, 0))
 }
 
 pub fn cond_node(w: &[u16; WORDS], c: u16) -> u16
@@ -91,14 +92,14 @@ pub fn shape_size(shape: u16) -> u16
 }
 
 // A record more, of a select by its cell.
-pub fn define_merge(w: &mut [u16; WORDS], select: u16, parts: &[u16; 8]) -> Defined
-    ensures { λ a. ⌜ tables.MergeDefined select (now (parts .entry)) (now (w .entry)) (now (w .exit)) a ⌝ }
+pub fn define_merge(w: &mut [u16; WORDS], select: Handle, parts: &[u16; 8]) -> Defined
+    ensures { λ a. ⌜ tables.MergeDefined (select .0) (now (parts .entry)) (now (w .entry)) (now (w .exit)) a ⌝ }
 {
     let m = head(w, MERGES);
     if m < MOST_MERGES {
         let c = MERGE + m;
         let at = ROW * (c as usize);
-        put(w, CONDITIONS, at, select);
+        put(w, CONDITIONS, at, select.0);
         put_all(w, CONDITIONS, at + 1, parts);
         set_head(w, MERGES, m + 1);
         return Defined::Number(c);

@@ -12,7 +12,7 @@ use Rattle.state_words.specs.Rows.{level-unreachable}
 
 -- ---- Cases.
 abbrev pub case-words : Case → List ℕ
-case-words x = x .kind ∷ x .origin ∷ x .body ∷ x .children ∷ x .start .0 ∷ x .length ∷ []
+case-words x = x .kind ∷ x .origin ∷ x .body ∷ x .children .0 ∷ x .start .0 ∷ x .length ∷ []
 
 unfoldable pub case-total : List ℕ → ℕ
 case-total l = pick (ltb (word l head cases-at) 8) (word l head cases-at) 8
@@ -20,7 +20,14 @@ case-total l = pick (ltb (word l head cases-at) 8) (word l head cases-at) 8
 abbrev pub case-row : List ℕ → ℕ → Case
 case-row l j =
     let field : ℕ → ℕ = λ i. case-word l j i in
-    record { kind = field 0; origin = field 1; body = field 2; children = field 3; start = record { 0 = field 4 }; length = field 5 }
+    record {
+      kind = field 0;
+      origin = field 1;
+      body = field 2;
+      children = record { 0 = field 3 };
+      start = record { 0 = field 4 };
+      length = field 5;
+    }
 
 unfoldable pub target-answer : List ℕ → ℕ → ℕ → ℕ
 target-answer l r j = pick (ltb j 8) (level l r j) level-unreachable

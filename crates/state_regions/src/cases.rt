@@ -8,6 +8,7 @@ use state_words::bundle_numbers::BundleNumber;
 use state_words::defined::CASE_TOTAL;
 use state_words::defined::head;
 use state_words::defined::set_head;
+use state_words::handles::Handle;
 use state_words::sections::CASES;
 use state_words::sections::get;
 use state_words::sections::put;
@@ -31,7 +32,7 @@ pub struct Case {
     pub kind: u16,
     pub origin: u16,
     pub body: u16,
-    pub children: u16,
+    pub children: Handle,
     pub start: BundleNumber,
     pub length: u16,
 }
@@ -91,10 +92,10 @@ pub fn set_case_body(w: &mut [u16; WORDS], j: u16, r: u16)
     set_word(w, j, 2, r);
 }
 
-pub fn case_children(w: &[u16; WORDS], j: u16) -> u16
-    ensures { λ a. ⌜ a ≡ rows.«case-children» (now (w .entry)) j ⌝ }
+pub fn case_children(w: &[u16; WORDS], j: u16) -> Handle
+    ensures { λ a. ⌜ a .0 ≡ rows.«case-children» (now (w .entry)) j ⌝ }
 {
-    word(w, j, 3)
+    Handle(word(w, j, 3))
 }
 
 pub fn case_start(w: &[u16; WORDS], j: u16) -> BundleNumber
@@ -126,7 +127,7 @@ pub fn set_case(w: &mut [u16; WORDS], j: u16, x: Case)
     ensures { λ _. ⌜ now (w .exit) ≡ sections.«stored-all» (now (w .entry)) sections.cases (rows.«case-row-at» j)
         (tables.«case-words» x) ⌝ }
 {
-    let xs = [x.kind, x.origin, x.body, x.children, x.start.0, x.length];
+    let xs = [x.kind, x.origin, x.body, x.children.0, x.start.0, x.length];
     put_all(w, CASES, ROW * (j as usize), &xs);
 }
 

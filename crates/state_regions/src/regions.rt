@@ -6,6 +6,7 @@ ghost use Rattle.state_words.specs.Sections as sections;
 ghost use Rattle.state_regions.specs.RegionTables as tables;
 ghost use Rattle.state_words.specs.Totals as totals;
 use state_words::edges::IncomingEdgeCount;
+use state_words::handles::Handle;
 use state_words::sections::BACKEDGES;
 use state_words::sections::BODIES;
 use state_words::sections::CHILDREN;
@@ -50,16 +51,16 @@ pub fn set_backedge_count(w: &mut [u16; WORDS], r: u16, n: IncomingEdgeCount)
     put(w, BACKEDGES, r as usize, n.to_word());
 }
 
-pub fn children(w: &[u16; WORDS], r: u16) -> u16
-    ensures { λ a. ⌜ a ≡ sections.word (now (w .entry)) sections.children r ⌝ }
+pub fn children(w: &[u16; WORDS], r: u16) -> Handle
+    ensures { λ a. ⌜ a .0 ≡ sections.word (now (w .entry)) sections.children r ⌝ }
 {
-    get(w, CHILDREN, r as usize)
+    Handle(get(w, CHILDREN, r as usize))
 }
 
-pub fn set_children(w: &mut [u16; WORDS], r: u16, h: u16)
-    ensures { λ _. ⌜ now (w .exit) ≡ sections.stored (now (w .entry)) sections.children r h ⌝ }
+pub fn set_children(w: &mut [u16; WORDS], r: u16, h: Handle)
+    ensures { λ _. ⌜ now (w .exit) ≡ sections.stored (now (w .entry)) sections.children r (h .0) ⌝ }
 {
-    put(w, CHILDREN, r as usize, h);
+    put(w, CHILDREN, r as usize, h.0);
 }
 
 // Of a claimed region: itself, or the wrapper of its loop.

@@ -13,7 +13,7 @@ use Rattle.state_shown.specs.Values.{value}
 use Rattle.state_shown.specs.Tables.{ShowsShape}
 use Rattle.state_words.specs.Rows.{cell-row-size, cell-word-at, cells-at}
 use Rattle.state_nodes.specs.declared.cells.Cell.{Cell}
-use Rattle.state_nodes.specs.declared.cells.Cell.the-variants.{Blocks, Join, Exit, Select, Loop, Case, Kept}
+use Rattle.state_nodes.specs.NodeTables.{Blocks, Join, Exit, Select, Loop, Case, Kept}
 use Rattle.state_nodes.specs.NodeTables.{cell-words}
 
 -- Cell h has the words of x.

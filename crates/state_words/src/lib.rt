@@ -4,5 +4,6 @@
 pub mod bundle_numbers;
 pub mod defined;
 pub mod edges;
+pub mod handles;
 pub mod sections;
 pub mod values;

@@ -30,7 +30,7 @@ use Rattle.state_words.specs.declared.defined.Made.the-variants.{Done, Full}
 use Rattle.cfg_select_nodes.specs.declared.define.Scrutinee.the-variants as scrutinee
 use Rattle.cfg_selects.specs.Into.{StructurizesInto}
 use Rattle.cfg_regions.specs.ByState.{backedge-at}
-use Rattle.state_nodes.specs.declared.cells.Cell.the-variants.{Exit}
+use Rattle.state_nodes.specs.NodeTables.{Exit}
 use Rattle.nesting.specs.Nesting.{most-nodes}
 use Rattle.cfg_regions.specs.ByInst.{AddsBlocks, no-blocks, some-blocks, AddsExit, exit-full, exit-added, Branches, branches, Selects}
 use Rattle.cfg_regions.specs.ByInst.{selects, ByTerminator, ByControlInst, by-inst, ResolvesBy, resolves, own-bundle}

@@ -37,13 +37,13 @@ use Rattle.figure.proofs.+cell_figure+dearest+figure.{statement}
 use Rattle.figure.proofs.+cell_figure+dearest+figure.Tie.{close}
 
 abbrev μ-cell-figure : Measures 1 cell-figure-kinds.ps ℕ
-μ-cell-figure κs a = 3 * a .1 .0 + 1
+μ-cell-figure κs a = 3 * a .1 .0 .0 + 1
 
 abbrev μ-dearest : Measures 1 dearest-kinds.ps ℕ
-μ-dearest κs a = 3 * a .1 .0
+μ-dearest κs a = 3 * a .1 .0 .0
 
 abbrev μ-figure : Measures 1 figure-kinds.ps ℕ
-μ-figure κs a = 3 * a .1 .0 + 2
+μ-figure κs a = 3 * a .1 .0 .0 + 2
 
 abbrev cell-figure-at : ℕ → In 1 cell-figure-kinds.ps
 cell-figure-at t =
@@ -252,10 +252,10 @@ cell-figure-returns-5 t c = cell-other (c .before .before .before .before .befor
     (c .before .before .before .before .if1 .left) (c .before .before .before .if2 .left) (c .before .if3 .left) (c .if4 .left)
 
 abbrev dearest-Inv-loop : dearest-lts.InvT-loop
-dearest-Inv-loop w cases most₀ h₀ most h = DearestTo w cases h most
+dearest-Inv-loop w most₀ h₀ most h = DearestTo w (h₀ .0) (h .0) most
 
 abbrev dearest-μ-loop : dearest-lts.MeasureT-loop
-dearest-μ-loop w cases most₀ h₀ most h = h
+dearest-μ-loop w most₀ h₀ most h = h .0
 
 dearest-loop-holds : (t : ℕ) → dearest-lts.Need-loop-holds (dearest-called t) (dearest-at t) dearest.Post dearest-Inv-loop
     dearest-μ-loop
@@ -271,9 +271,9 @@ dearest-figure-requires : (t : ℕ) → dearest-lts.Need-figure-requires (deares
 dearest-figure-requires t c κs = (
   omega (
     arith,
-    c .before .before .before .pre .0,
-    named-below _ (c .children-of-case .ensures) (c .before .loop-test .taken),
-    c .before .before .loop .inv .below,
+    c .before .before .before .before .pre .0,
+    named-below _ (c .children-of-case .ensures) (c .before .if1 .taken),
+    c .before .before .before .loop .inv .below,
   ),
   tt,
 )
@@ -289,32 +289,32 @@ dearest-cases-after-requires t c κs = search needs
 
 dearest-loop-less : (t : ℕ) → dearest-lts.Need-loop-less (dearest-called t) (dearest-at t) dearest.Post dearest-Inv-loop
     dearest-μ-loop
-dearest-loop-less t c = named-below _ (c .cases-after .ensures) (c .before .before .before .before .loop-test .taken)
+dearest-loop-less t c = named-below _ (c .cases-after .ensures) (c .before .before .before .before .if1 .taken)
 
 dearest-loop-again : (t : ℕ) → dearest-lts.Need-loop-again (dearest-called t) (dearest-at t) dearest.Post dearest-Inv-loop
     dearest-μ-loop
 dearest-loop-again t c =
     let at-figure = c .before .before in
-    let at-loop-test = at-figure .before .before in
-    dearest-turn (at-loop-test .before .loop .inv) (at-loop-test .loop-test .taken) (at-figure .before .children-of-case .ensures)
+    let at-if = at-figure .before .before in
+    dearest-turn (at-if .before .before .loop .inv) (at-if .if1 .taken) (at-figure .before .children-of-case .ensures)
     (at-figure .figure .ensures) (c .before .larger .ensures) (c .cases-after .ensures)
 
 dearest-returns : (t : ℕ) → dearest-lts.Need-returns (dearest-called t) (dearest-at t) dearest.Post dearest-Inv-loop
     dearest-μ-loop
-dearest-returns t c = dearest-all (c .before .loop .inv) (c .loop-test .left)
+dearest-returns t c = dearest-all (c .before .before .loop .inv) (c .if1 .left)
 
 abbrev figure-Inv-loop : figure-lts.InvT-loop
-figure-Inv-loop w list sum₀ h₀ sum h = SummedTo w list h sum
+figure-Inv-loop w sum₀ h₀ sum h = SummedTo w (h₀ .0) (h .0) sum
 
 abbrev figure-μ-loop : figure-lts.MeasureT-loop
-figure-μ-loop w list sum₀ h₀ sum h = h
+figure-μ-loop w sum₀ h₀ sum h = h .0
 
 figure-loop-holds : (t : ℕ) → figure-lts.Need-loop-holds (figure-called t) (figure-at t) figure.Post figure-Inv-loop figure-μ-loop
 figure-loop-holds t c = passed-none
 
 figure-cell-figure-requires : (t : ℕ) → figure-lts.Need-cell-figure-requires (figure-called t) (figure-at t) figure.Post figure-Inv-loop
     figure-μ-loop
-figure-cell-figure-requires t c κs = (omega (arith, c .before .before .pre .0, c .before .loop .inv .below), c .loop-test .taken)
+figure-cell-figure-requires t c κs = (omega (arith, c .before .before .before .pre .0, c .before .before .loop .inv .below), c .if1 .taken)
 
 figure-add-held-at-limit : (t : ℕ) → figure-lts.Need-add-held-at-limit (figure-called t) (figure-at t) figure.Post figure-Inv-loop figure-μ-loop
 figure-add-held-at-limit t c = search needs
@@ -328,14 +328,14 @@ figure-list-before-requires : (t : ℕ) → figure-lts.Need-list-before-requires
 figure-list-before-requires t c κs = search needs
 
 figure-loop-less : (t : ℕ) → figure-lts.Need-loop-less (figure-called t) (figure-at t) figure.Post figure-Inv-loop figure-μ-loop
-figure-loop-less t c = before-below _ (c .list-before .ensures) (c .before .before .before .loop-test .taken)
+figure-loop-less t c = before-below _ (c .list-before .ensures) (c .before .before .before .if1 .taken)
 
 figure-loop-again : (t : ℕ) → figure-lts.Need-loop-again (figure-called t) (figure-at t) figure.Post figure-Inv-loop figure-μ-loop
-figure-loop-again t c = passed-turn (c .before .before .before .before .loop .inv) (c .before .before .before .loop-test .taken)
+figure-loop-again t c = passed-turn (c .before .before .before .before .before .loop .inv) (c .before .before .before .if1 .taken)
     (c .before .before .cell-figure .ensures) (c .before .held-at-limit .ensures) (c .list-before .ensures)
 
 figure-returns : (t : ℕ) → figure-lts.Need-returns (figure-called t) (figure-at t) figure.Post figure-Inv-loop figure-μ-loop
-figure-returns t c = passed-all (c .before .loop .inv) (c .loop-test .left)
+figure-returns t c = passed-all (c .before .before .loop .inv) (c .if1 .left)
 
 pub +cell-figure+dearest+figure-spec : {M : Type 1} → statement M
 +cell-figure+dearest+figure-spec =

@@ -22,7 +22,7 @@ use Rattle.sheet_regions.proofs.+put_numbers.{statement}
 use Rattle.sheet_regions.proofs.+put_numbers.Tie.{close}
 
 abbrev measure : Measures 2 kinds.ps ℕ
-measure κs a = a .1 .1 .1 .0
+measure κs a = a .1 .1 .1 .0 .0
 
 abbrev at : ℕ → In 2 kinds.ps
 at t = and 2 kinds.ps (is 2 kinds.ps measure t) reads.Pre
@@ -46,10 +46,10 @@ called t = (
 )
 
 abbrev Inv-loop : lts.InvT-loop
-Inv-loop w out₀ list y₀ h₀ out y h = ListPut w list h out₀ y₀ out y × (h ≤ list) × (length out ≡ length out₀)
+Inv-loop w out₀ y₀ h₀ out y h = ListPut w (h₀ .0) (h .0) out₀ y₀ out y × (h .0 ≤ h₀ .0) × (length out ≡ length out₀)
 
 abbrev μ-loop : lts.MeasureT-loop
-μ-loop w out₀ list y₀ h₀ out y h = h
+μ-loop w out₀ y₀ h₀ out y h = h .0
 
 module _ (t : ℕ) where
   loop-holds : lts.Need-loop-holds (called t) (at t) reads.Post Inv-loop μ-loop
@@ -64,12 +64,12 @@ module _ (t : ℕ) where
   put-numbers-requires : lts.Need-put-numbers-requires (called t) (at t) reads.Post Inv-loop μ-loop
   put-numbers-requires c κs =
       let at-loop-test = c .before .before .before .before in
-      let at-pre = at-loop-test .before .before .before in (
+      let at-pre = at-loop-test .before .before .before .before in (
         omega (
           arith,
           at-pre .pre .0,
           named-below _ (c .join-list .ensures)
-              (at-loop-test .loop-test .taken),
+              (at-loop-test .if1 .taken),
         ),
         tt,
       )
@@ -81,27 +81,27 @@ module _ (t : ℕ) where
   list-before-requires c κs = search needs
 
   loop-less : lts.Need-loop-less (called t) (at t) reads.Post Inv-loop μ-loop
-  loop-less c = before-below _ (c .list-before .ensures) (c .before .before .before .loop-test .taken)
+  loop-less c = before-below _ (c .list-before .ensures) (c .before .before .before .if1 .taken)
 
   loop-again : lts.Need-loop-again (called t) (at t) reads.Post Inv-loop μ-loop
   loop-again c = (
     ⊎-elim
-        (λ y. list-as (list-inner _ _ _ (c .before .before .before .before .loop .inv .0) (c .before .before .before .loop-test .taken)
+        (λ y. list-as (list-inner _ _ _ (c .before .before .before .before .before .loop .inv .0) (c .before .before .before .if1 .taken)
         (c .before .before .cell-tag .ensures) (y .0 .taken) (y .2 .ensures)
         (y .3 .ensures)) (c .list-before .ensures) (y .6) (y .7))
-        (λ y. list-as (list-cell _ _ _ (c .before .before .before .before .loop .inv .0) (c .before .before .before .loop-test .taken)
+        (λ y. list-as (list-cell _ _ _ (c .before .before .before .before .before .loop .inv .0) (c .before .before .before .if1 .taken)
         (c .before .before .cell-tag .ensures) (y .0 .left) (y .2 .ensures))
         (c .list-before .ensures) (y .5) (y .6))
-        (c .before .if1 .came),
-    omega (arith, before-below _ (c .list-before .ensures) (c .before .before .before .loop-test .taken)),
-    ⊎-elim (λ y. search needs) (λ y. search needs) (c .before .if1 .came),
+        (c .before .if2 .came),
+    omega (arith, before-below _ (c .list-before .ensures) (c .before .before .before .if1 .taken)),
+    ⊎-elim (λ y. search needs) (λ y. search needs) (c .before .if2 .came),
   )
 
   same-length : lts.Need-same-length (called t) (at t) reads.Post Inv-loop μ-loop
   same-length c = search needs
 
   returns : lts.Need-returns (called t) (at t) reads.Post Inv-loop μ-loop
-  returns c = list-all _ _ _ (c .before .loop .inv .0) (c .loop-test .left)
+  returns c = list-all _ _ _ (c .before .before .loop .inv .0) (c .if1 .left)
 
 pub +put-numbers-spec : {M : Type 1} → statement M
 +put-numbers-spec = close measure λ t. lts.spec (called t) (at t) reads.Post Inv-loop μ-loop

@@ -8,6 +8,7 @@ use Rattle.meaning.specs.Runs.{Nodes}
 use Rattle.nesting.specs.Nesting.{NestState, LoopInputs, plain}
 use Rattle.nesting.specs.SheetNumbers.{lead-region}
 use Rattle.record.specs.Stands.{OfRecord}
+use Rattle.state_words.specs.declared.handles.Handle.{Handle}
 use Rattle.sheet_words.specs.declared.place.Place.{Place}
 use Rattle.sheet_words.specs.PutInFront.{Puts}
 use Rattle.sheet_words.specs.laws.PutInFrontLaws.{puts-then}
@@ -33,8 +34,8 @@ module _ (w : List ℕ) (r : ℕ) {inputs : RegionInputs} {out out′ : List ℕ
       go : {ts : List ℕ} → HasTypes g w r All ts → Puts out at (plain (length ts ∷ ts)) out′ at′
       go all-types = p g (x .state .stands)
 
-  pub types-kept : {list : ℕ} → inputs ≡ Kept list
-      → OfState w (λ g s. (y : LoopInputs) → KeepsInputs g w r list y → Puts out at (plain (length (y .types) ∷ y .types)) out′ at′)
+  pub types-kept : {list : Handle} → inputs ≡ Kept list
+      → OfState w (λ g s. (y : LoopInputs) → KeepsInputs g w r (list .0) y → Puts out at (plain (length (y .types) ∷ y .types)) out′ at′)
       → PutsTypes w r inputs out at out′ at′
   types-kept {list} e p g s x ts has = go (rw e at has)
     where

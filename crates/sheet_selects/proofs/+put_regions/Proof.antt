@@ -16,7 +16,7 @@ use Rattle.sheet_selects.proofs.+put_regions.{statement}
 use Rattle.sheet_selects.proofs.+put_regions.Tie.{close}
 
 abbrev measure : Measures 2 kinds.ps ℕ
-measure κs a = a .1 .1 .1 .0
+measure κs a = a .1 .1 .1 .0 .0
 
 abbrev at : ℕ → In 2 kinds.ps
 at t = and 2 kinds.ps (is 2 kinds.ps measure t) reads.Pre
@@ -48,7 +48,7 @@ module _ (t : ℕ) where
   put-regions-requires c κs = (
     omega (
       arith,
-      c .before .before .before .before .pre .0,
+      c .before .before .before .before .before .pre .0,
       c .before .before .if1 .left,
       named-below _
           (c .cases-after .ensures) (omega (arith, c .before .before .if1 .left)),

@@ -17,7 +17,8 @@ returns : tie.Need-returns
 returns c =
     let at-put = c .before .before in
     let at-put-regions = at-put .before .before .before .before in
-    case-numbers-put _ (omega arith) (at-put-regions .put-regions .ensures)
+    let start = at-put-regions .before .before .before in
+    case-numbers-put _ (omega (arith, start .good .1 .1 .1 .0)) (at-put-regions .put-regions .ensures)
     (at-put .put .ensures)
 
 pub put-case-numbers-spec : {M : Type 1} → statement M

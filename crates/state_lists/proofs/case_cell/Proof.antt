@@ -8,10 +8,10 @@ use Rattle.state_lists.proofs.case_cell.Statement.{statement}
 use Rattle.state_lists.proofs.case_cell.Tie as tie
 
 abbrev Inv-loop : tie.InvT-loop
-Inv-loop w list j h₀ i₀ h i = (h ≡ case-cell w list i) × (i ≤ j)
+Inv-loop w j h₀ i₀ h i = (h .0 ≡ case-cell w (h₀ .0) i) × (i ≤ j)
 
 abbrev μ-loop : tie.MeasureT-loop
-μ-loop w list j h₀ i₀ h i = j - i
+μ-loop w j h₀ i₀ h i = j - i
 
 loop-holds : tie.Need-loop-holds Inv-loop μ-loop
 unfolding case-cell

@@ -14,7 +14,8 @@ use Rattle.meaning.specs.Runs.{Nodes, ⟨⟩, _▸_, Cases, ∅, loop, exit, ca
 use Rattle.meaning.specs.facts.Tests.{clash}
 use Rattle.nesting.specs.Nesting.{join, has-children, blocks-of, blocks-from, new-case, new-select, LoopInputs, loop-node, most-regions}
 use Rattle.state_nodes.specs.declared.cells.Cell.{Cell}
-use Rattle.state_nodes.specs.declared.cells.Cell.the-variants.{Blocks, Join, Exit, Select, Loop, Case, Kept}
+use Rattle.state_nodes.specs.declared.cells.Cell.the-variants as cell
+use Rattle.state_nodes.specs.NodeTables.{Blocks, Exit, Select, Loop, Case, Kept}
 use Rattle.state_words.specs.Sections as sections
 use Rattle.state_words.specs.Sections.{Section, number, start, size, used, section, word, stored, stored-all, head, conditions, cells}
 use Rattle.state_words.specs.laws.Apart.{section-other}
@@ -64,13 +65,13 @@ module _ (g : Graph) (l : List ℕ) (i : ℕ) (xs : List ℕ) where
 
 -- ---- A cell more, where there is room.
 six-words : (x : Cell) → length (cell-words x) ≡ cell-row-size
-six-words (Blocks r) = refl
-six-words (Join p q) = refl
-six-words (Exit p n r) = refl
-six-words (Select p n shape x q) = refl
-six-words (Loop p n r x q) = refl
-six-words (Case p r q) = refl
-six-words (Kept p k wrapper x) = refl
+six-words (cell.Blocks r) = refl
+six-words (cell.Join p q) = refl
+six-words (cell.Exit p n r) = refl
+six-words (cell.Select p n shape x q) = refl
+six-words (cell.Loop p n r x q) = refl
+six-words (cell.Case p r q) = refl
+six-words (cell.Kept p k wrapper x) = refl
 
 module _ {w w′ : List ℕ} {x : Cell} {h : ℕ} (step : Adds w w′ x h) (free : word w head cells-at < most-cells) (room : used ≤ length w) where
   abbrev with-cell : List ℕ

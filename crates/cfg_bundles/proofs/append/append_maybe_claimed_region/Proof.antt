@@ -30,8 +30,8 @@ returns c =
     let at-swap-sets = c .before .before in
     let at-set-children = at-swap-sets .before .before in
     let at-join = at-set-children .before .before in
-    let at-children = at-join .before .before in
-    let entered = c .before .before .before .before .before .before .before .before .before .before in
+    let at-children = at-join .before .before .before in
+    let entered = at-children .before .before in
     append-claimed _ _ _ _ (entered .before .before .before .before .before .if1 .taken)
     (entered .before .before .before .case-inputs .ensures) (entered .insert-rewrites .ensures)
     (at-children .children .ensures)

@@ -180,7 +180,7 @@ split-by g l r i a b c d e f h k m o q = q ∙ rw (o, m, k, h, f, e, d, c, b, a)
 -- ---- A case that stands alone.
 pub append-claimed : (l : List ℕ) (r : ℕ) (x : Case) (j : ℕ) {vs l₁ l₂ l₃ l₄ l₅ : List ℕ} {before h : ℕ} → x .kind ≡ case-claimed
     → vs ≡ case-inputs l j
-    → l₁ ≡ inserted l (x .body) entry-replace vs → before ≡ word l₁ children r → Joins l₁ l₂ before (x .children) h
+    → l₁ ≡ inserted l (x .body) entry-replace vs → before ≡ word l₁ children r → Joins l₁ l₂ before (x .children .0) h
     → l₃ ≡ stored l₂ children r h
     → l₄ ≡ swapped l₃ r (x .origin) → l₅ ≡ stored l₄ set-lengths r (x .length) → Appends l l₅ r x j
 append-claimed l r x j kind a b c d e f k =

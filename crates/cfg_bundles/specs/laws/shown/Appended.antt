@@ -43,7 +43,7 @@ pub data ShowsAlone (g : Graph) (w : List ℕ) (r j : ℕ) (x : Case) : MaybeCla
   claimed-parts : {c : ClaimedRegion} → x .kind ≡ case-claimed → x .origin ≡ c .origin → c .origin < length (g .regions)
       → (c .origin ≡ r → ⊥)
       → region-kind w (c .origin) ≡ kind-claimed → x .body ≡ c .structured-body → c .structured-body < most-regions
-      → ShowsChildren g w (x .children) (c .children) → ShowsSet g w (word w set-starts (c .origin)) (x .length) (c .deferred-edges)
+      → ShowsChildren g w (x .children .0) (c .children) → ShowsSet g w (word w set-starts (c .origin)) (x .length) (c .deferred-edges)
       → ((k : ℕ) → k < 4 → Names (case-input w j k) (getD (c .structured-body-inputs) k (undef 0)))
       → ShowsAlone g w r j x (ok c)
   edge-parts : {d : DeferredEdgeBundleSet} → x .kind ≡ case-own-edge → x .length ≡ 1 → ShowsSet g w (x .start .0) 1 d
@@ -229,7 +229,7 @@ module _ {g : Graph} (few : length (g .regions) ≤ 32) {r : ℕ} (here : r < le
   claimed-appended : (x : Case) {j : ℕ} {c : ClaimedRegion} → word w head cells-at < most-cells → ShowsAlone g w r j x (ok c)
       → {w₂ w′ : List ℕ} {h : ℕ}
       → Joins (inserted w (x .body) entry-replace (case-inputs w j)) w₂
-      (word (inserted w (x .body) entry-replace (case-inputs w j)) children r) (x .children) h
+      (word (inserted w (x .body) entry-replace (case-inputs w j)) children r) (x .children .0) h
       → w′ ≡ stored (swapped (stored w₂ children r h) r (x .origin)) set-lengths r (x .length)
       → AppendShown g w w′ s parent (ok c) r
   unfolding append-maybe-claimed-region

@@ -9,7 +9,7 @@ use Rattle.cfg_emits.proofs.emit.emit_bundles.Statement.{statement}
 use Rattle.cfg_emits.proofs.emit.emit_bundles.Tie as tie
 
 abbrev Inv-loop : tie.InvT-loop
-Inv-loop w₀ h start n i₀ w i = (i ≤ n) × GoesOnBy (λ g. EmitAt g h (start .0)) n i w₀ w
+Inv-loop w₀ h start n i₀ w i = (i ≤ n) × GoesOnBy (λ g. EmitAt g (h .0) (start .0)) n i w₀ w
 
 abbrev μ-loop : tie.MeasureT-loop
 μ-loop w₀ h start n i₀ w i = n - i

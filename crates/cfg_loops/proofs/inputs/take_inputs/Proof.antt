@@ -50,7 +50,7 @@ loop-again c = (
 )
 
 returns : tie.Need-returns Inv-loop μ-loop
-returns c = all-taken (c .before .loop .inv .0) (c .before .loop .inv .2) (c .loop-test .left) refl
+returns c = all-taken (c .before .before .loop .inv .0) (c .before .before .loop .inv .2) (c .before .loop-test .left) refl
 
 pub take-inputs-spec : {M : Type 1} → statement M
 take-inputs-spec =

@@ -14,7 +14,7 @@ few-kept (kept a b c) h = let e = c .count in omega arith
 few-kept (beyond a b c d e) h = omega arith
 
 pub all-taken : {r wrapper n k h : ℕ} {x : LoopInputs} {l vs l′ ws : List ℕ} → TakesFrom r wrapper n k l vs l′ ws x → k ≤ 4 → 4 ≤ k
-    → h ≡ x .cells → TakesInputs r wrapper n l vs l′ ws h
+    → h ≡ x .cells .0 → TakesInputs r wrapper n l vs l′ ws h
 all-taken {k} {x} taken a b e = let all : k ≡ 4 = omega arith in record { last = x; taken = rw all at taken; cells = e }
 
 pub all-rewritten : {n k : ℕ} {l vs l′ us : List ℕ} → RewritesValues n k l vs l′ us → k ≤ 4 → 4 ≤ k → RewritesValues n 4 l vs l′ us

@@ -11,7 +11,7 @@ use Rattle.state_words.specs.Sections.{word, stored, set-lengths, children, bod
 use Rattle.state_nodes.specs.NodeTables.{Adds}
 use Rattle.state_words.specs.Totals.{Defines}
 use Rattle.state_sets.specs.SetTables.{swap-removed}
-use Rattle.state_nodes.specs.declared.cells.Cell.the-variants.{Loop}
+use Rattle.state_nodes.specs.NodeTables.{Loop}
 use Rattle.cfg_lookups.specs.Materialized.{Materializes}
 use Rattle.state_words.specs.declared.defined.Made.{Made}
 use Rattle.state_words.specs.declared.defined.Made.the-variants.{Done, Full as Refused}

@@ -53,7 +53,7 @@ taken-more g r wrapper k (u ∷ vs) v x =
 pub record InputsTaken (g : Graph) (r wrapper k : ℕ) (l vs l₁ ws : List ℕ) (x : code.LoopInputs) (vals : List Value) : Type 0 where
   pub inputs : LoopInputs
   pub are : inputs ≡ take-inputs g r wrapper 0 (take k vals) no-inputs
-  pub kept : ShowsKeptList g l₁ r (x .cells) inputs
+  pub kept : ShowsKeptList g l₁ r (x .cells .0) inputs
   pub count : x .count ≡ length (inputs .initial-inputs)
   pub few : x .count ≤ k
   pub size : length (inputs .rewrites) ≡ length (take k vals)
@@ -72,7 +72,7 @@ module _ (g : Graph) (r wrapper n : ℕ) (l vs : List ℕ) (vals : List Value) (
   abbrev So : ℕ → List ℕ → List ℕ → code.LoopInputs → Type 0
   So k l₁ ws x = InputsTaken g r wrapper k l vs l₁ ws x vals
 
-  none-so : {x : code.LoopInputs} → x .count ≡ 0 → x .cells ≡ 0 → So 0 l vs x
+  none-so : {x : code.LoopInputs} → x .count ≡ 0 → x .cells .0 ≡ 0 → So 0 l vs x
   none-so {x} a b =
       record {
         inputs = no-inputs;

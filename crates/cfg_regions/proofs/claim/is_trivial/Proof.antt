@@ -21,8 +21,10 @@ children-requires : tie.Need-children-requires
 children-requires c κs = search needs
 
 returns-3 : tie.Need-returns-3
-returns-3 c = trivial-children _ _ _ (c .before .before .before .before .region-state .ensures) (c .before .before .before .if1 .left) _
-    (c .before .before .set-length .ensures) (c .before .if2 .left) _ (c .children .ensures)
+returns-3 c =
+    let d = c .before in
+    trivial-children _ _ _ (d .before .before .before .before .region-state .ensures) (d .before .before .before .if1 .left) _
+    (d .before .before .set-length .ensures) (d .before .if2 .left) _ (d .children .ensures)
 
 pub is-trivial-spec : {M : Type 1} → statement M
 is-trivial-spec =

@@ -24,8 +24,8 @@ children-of-requires : tie.Need-children-of-requires Inv-loop μ-loop
 children-of-requires c κs = search needs
 
 returns : tie.Need-returns Inv-loop μ-loop
-returns c = any-found _ _ _ (c .before .before .before .loop .inv .1) (c .before .before .loop-test .taken)
-    (λ e. c .if1 .taken (c .before .children-of .ensures ∙ e))
+returns c = any-found _ _ _ (c .before .before .before .before .loop .inv .1) (c .before .before .before .loop-test .taken)
+    (λ e. c .if1 .taken (c .before .before .children-of .ensures ∙ e))
 
 add-j : tie.Need-add-j Inv-loop μ-loop
 add-j c = search needs
@@ -36,8 +36,8 @@ loop-less c = search needs
 loop-again : tie.Need-loop-again Inv-loop μ-loop
 loop-again c = (
   omega arith,
-  any-on _ _ _ (c .before .before .before .loop .inv .1) (c .before .before .loop-test .taken)
-      (sym (c .before .children-of .ensures) ∙ c .if1 .left),
+  any-on _ _ _ (c .before .before .before .before .loop .inv .1) (c .before .before .before .loop-test .taken)
+      (sym (c .before .before .children-of .ensures) ∙ c .if1 .left),
 )
 
 returns-2 : tie.Need-returns-2 Inv-loop μ-loop

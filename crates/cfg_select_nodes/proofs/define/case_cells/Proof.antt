@@ -5,7 +5,7 @@ use Rattle.cfg_select_nodes.proofs.define.case_cells.Statement.{stateme
 use Rattle.cfg_select_nodes.proofs.define.case_cells.Tie as tie
 
 abbrev Inv-loop : tie.InvT-loop
-Inv-loop w₀ h₀ j₀ w h j = CellsOn w₀ j h w
+Inv-loop w₀ h₀ j₀ w h j = CellsOn w₀ j (h .0) w
 
 abbrev μ-loop : tie.MeasureT-loop
 μ-loop w₀ h₀ j₀ w h j = j

@@ -5,7 +5,7 @@ use Prim.Native.Nat.{ℕ, suc, _-_, _≤_, _<_}
 use native.Mathlib.Omega.{arith}
 use Rattle.state_regions.specs.RegionTables.{case-total}
 use Rattle.state_nodes.specs.NodeTables.{Adds}
-use Rattle.state_nodes.specs.declared.cells.Cell.the-variants.{Case}
+use Rattle.state_nodes.specs.NodeTables.{Case}
 use Rattle.cfg_select_nodes.specs.Cases.{children-of}
 use Rattle.cfg_select_nodes.specs.Selects.{CaseCells, cells-over, cell-more, CellsOn}
 use Rattle.state_words.specs.Rows.{case-body}

@@ -33,7 +33,10 @@ put-word-requires-3 : tie.Need-put-word-requires-3
 put-word-requires-3 c κs = search needs
 
 same-length : tie.Need-same-length
-same-length c = search needs
+same-length c =
+    let third = c .before .before .before .before .before .before .before .before .before .before in
+    let second = third .before .before .before .before .before in
+    search (needs, third .out3 .given, second .out2 .given, second .before .before .before .before .before .out .given)
 
 returns : tie.Need-returns
 returns c =

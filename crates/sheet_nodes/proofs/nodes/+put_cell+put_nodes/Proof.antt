@@ -27,10 +27,10 @@ use Rattle.sheet_nodes.proofs.nodes.+put_cell+put_nodes.{statement}
 use Rattle.sheet_nodes.proofs.nodes.+put_cell+put_nodes.Tie.{close}
 
 abbrev μ-put-cell : Measures 2 put-cell-kinds.ps ℕ
-μ-put-cell κs a = 2 * a .1 .1 .1 .0
+μ-put-cell κs a = 2 * a .1 .1 .1 .0 .0
 
 abbrev μ-put-nodes : Measures 2 put-nodes-kinds.ps ℕ
-μ-put-nodes κs a = 2 * a .1 .1 .1 .0 + 1
+μ-put-nodes κs a = 2 * a .1 .1 .1 .0 .0 + 1
 
 abbrev put-cell-at : ℕ → In 2 put-cell-kinds.ps
 put-cell-at t = and 2 put-cell-kinds.ps (is 2 put-cell-kinds.ps μ-put-cell t) put-cell.Pre
@@ -69,7 +69,7 @@ put-nodes-called t = (
 )
 
 abbrev put-cell-Inv-loop : put-cell-lts.InvT-loop
-put-cell-Inv-loop w out₀ h e₀ j₀ out e j = InsidePut w h j₀ j out₀ e₀ out e × (j ≤ j₀) × (length out ≡ length out₀)
+put-cell-Inv-loop w out₀ h e₀ j₀ out e j = InsidePut w (h .0) j₀ j out₀ e₀ out e × (j ≤ j₀) × (length out ≡ length out₀)
 
 abbrev put-cell-μ-loop : put-cell-lts.MeasureT-loop
 put-cell-μ-loop w out₀ h e₀ j₀ out e j = j
@@ -142,10 +142,10 @@ put-cell-returns t c =
     (c .before .before .put-cell-lines2 .ensures)
 
 abbrev put-nodes-Inv-loop : put-nodes-lts.InvT-loop
-put-nodes-Inv-loop w out₀ list e₀ h₀ out e h = PutsBehind w list h out₀ e₀ out e × (h ≤ list) × (length out ≡ length out₀)
+put-nodes-Inv-loop w out₀ e₀ h₀ out e h = PutsBehind w (h₀ .0) (h .0) out₀ e₀ out e × (h .0 ≤ h₀ .0) × (length out ≡ length out₀)
 
 abbrev put-nodes-μ-loop : put-nodes-lts.MeasureT-loop
-put-nodes-μ-loop w out₀ list e₀ h₀ out e h = h
+put-nodes-μ-loop w out₀ e₀ h₀ out e h = h .0
 
 put-nodes-loop-holds : (t : ℕ) → put-nodes-lts.Need-loop-holds
     (put-nodes-called t) (put-nodes-at t) put-nodes.Post put-nodes-Inv-loop put-nodes-μ-loop
@@ -155,7 +155,7 @@ put-nodes-loop-holds t c =
 put-nodes-put-cell-requires : (t : ℕ) → put-nodes-lts.Need-put-cell-requires
     (put-nodes-called t) (put-nodes-at t) put-nodes.Post put-nodes-Inv-loop put-nodes-μ-loop
 put-nodes-put-cell-requires t c κs =
-    (omega (arith, c .before .before .before .before .pre .0, c .before .before .loop .inv .1), c .before .loop-test .taken)
+    (omega (arith, c .before .before .before .before .before .pre .0, c .before .before .before .loop .inv .1), c .before .if1 .taken)
 
 put-nodes-list-before-requires : (t : ℕ) → put-nodes-lts.Need-list-before-requires
     (put-nodes-called t) (put-nodes-at t) put-nodes.Post put-nodes-Inv-loop put-nodes-μ-loop
@@ -165,15 +165,15 @@ put-nodes-loop-less : (t : ℕ) → put-nodes-lts.Need-loop-less
     (put-nodes-called t) (put-nodes-at t) put-nodes.Post put-nodes-Inv-loop put-nodes-μ-loop
 put-nodes-loop-less t c =
     let d = c .before .before .before .before .before in
-    before-below _ (c .list-before .ensures) (d .loop-test .taken)
+    before-below _ (c .list-before .ensures) (d .if1 .taken)
 
 put-nodes-loop-again : (t : ℕ) → put-nodes-lts.Need-loop-again
     (put-nodes-called t) (put-nodes-at t) put-nodes.Post put-nodes-Inv-loop put-nodes-μ-loop
 put-nodes-loop-again t c =
     let d = c .before .before .before .before .before in (
-      walk-turn _ _ _ (d .loop-test .taken) (d .before .loop .inv .0) (c .before .before .before .put-cell .ensures)
+      walk-turn _ _ _ (d .if1 .taken) (d .before .before .loop .inv .0) (c .before .before .before .put-cell .ensures)
           (c .list-before .ensures),
-      omega (arith, before-below _ (c .list-before .ensures) (d .loop-test .taken), d .before .loop .inv .1),
+      omega (arith, before-below _ (c .list-before .ensures) (d .if1 .taken), d .before .before .loop .inv .1),
       search needs,
     )
 
@@ -184,7 +184,7 @@ put-nodes-same-length t c = search needs
 put-nodes-returns : (t : ℕ) → put-nodes-lts.Need-returns
     (put-nodes-called t) (put-nodes-at t) put-nodes.Post put-nodes-Inv-loop put-nodes-μ-loop
 put-nodes-returns t c =
-    walk-end _ _ (c .loop-test .left) (c .before .loop .inv .0)
+    walk-end _ _ (c .if1 .left) (c .before .before .loop .inv .0)
 
 pub +put-cell+put-nodes-spec : {M : Type 1} → statement M
 +put-cell+put-nodes-spec = close μ-put-cell μ-put-nodes (λ t. put-cell-lts.spec (put-cell-called t)

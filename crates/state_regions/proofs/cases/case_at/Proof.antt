@@ -25,7 +25,7 @@ returns c = λ i. record {
   kind = c .before .before .before .before .before .case-kind .ensures i;
   origin = c .before .before .before .before .case-origin .ensures i;
   body = c .before .before .before .case-body .ensures i;
-  children = c .before .before .case-children .ensures i;
+  children = record { 0 = c .before .before .case-children .ensures i };
   start = record { 0 = c .before .case-start .ensures i };
   length = c .case-length .ensures i;
 }
