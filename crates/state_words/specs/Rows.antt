@@ -92,11 +92,17 @@ case-row-at j = case-row-size * j
 abbrev pub case-word-at : ℕ → ℕ → ℕ
 case-word-at j i = case-row-size * j + i
 
+abbrev pub case-kind-field : ℕ
+case-kind-field = 0
+
 abbrev pub case-kind-at : ℕ → ℕ
-case-kind-at j = case-word-at j 0
+case-kind-at j = case-word-at j case-kind-field
+
+abbrev pub case-origin-field : ℕ
+case-origin-field = 1
 
 abbrev pub case-origin-at : ℕ → ℕ
-case-origin-at j = case-word-at j 1
+case-origin-at j = case-word-at j case-origin-field
 
 abbrev pub case-body-field : ℕ
 case-body-field = 2
@@ -104,14 +110,23 @@ case-body-field = 2
 abbrev pub case-body-at : ℕ → ℕ
 case-body-at j = case-word-at j case-body-field
 
+abbrev pub case-children-field : ℕ
+case-children-field = 3
+
 abbrev pub case-children-at : ℕ → ℕ
-case-children-at j = case-word-at j 3
+case-children-at j = case-word-at j case-children-field
+
+abbrev pub case-set-start-field : ℕ
+case-set-start-field = 4
 
 abbrev pub case-set-start-at : ℕ → ℕ
-case-set-start-at j = case-word-at j 4
+case-set-start-at j = case-word-at j case-set-start-field
+
+abbrev pub case-set-length-field : ℕ
+case-set-length-field = 5
 
 abbrev pub case-set-length-at : ℕ → ℕ
-case-set-length-at j = case-word-at j 5
+case-set-length-at j = case-word-at j case-set-length-field
 
 abbrev pub case-input-at : ℕ → ℕ → ℕ
 case-input-at j k = case-word-at j (6 + k)
@@ -378,8 +393,11 @@ bundle-row-at p = bundle-row-size * p
 abbrev pub bundle-word-at : ℕ → ℕ → ℕ
 bundle-word-at p i = bundle-row-size * p + i
 
+abbrev pub bundle-target-field : ℕ
+bundle-target-field = 0
+
 abbrev pub bundle-target-at : ℕ → ℕ
-bundle-target-at p = bundle-word-at p 0
+bundle-target-at p = bundle-word-at p bundle-target-field
 
 abbrev pub bundle-count-field : ℕ
 bundle-count-field = 1

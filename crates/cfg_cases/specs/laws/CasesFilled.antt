@@ -35,7 +35,7 @@ use Rattle.cfg_bundles.specs.laws.shown.CaseSteps.{of-claimed, of-others, case-
 use Rattle.cfg_bundles.specs.laws.shown.CaseSteps.{other-row}
 use Rattle.cfg_bundles.specs.laws.shown.CaseSteps.{shown-stays, row-word, claimed-row, nothing-row, edge-row}
 use Rattle.state_words.specs.Rows.{case-claimed, case-kind, case-nothing, case-origin, case-own-edge, case-row-at, cases-at, level-claimed}
-use Rattle.state_words.specs.Rows.{level-deferred, level-unreachable, own-edges-from}
+use Rattle.state_words.specs.Rows.{level-deferred, level-unreachable, own-edges-from, case-kind-field}
 
 -- ---- How the target at place j was answered, with the definition's case.
 pub data ShowsTargetRegion (g : Graph) (w : List ℕ) (r j : ℕ) : MaybeClaimedRegion → Type 0 where
@@ -155,7 +155,7 @@ module _ {g : Graph} (valid : Valid g) {r : ℕ} (here : r < length (g .regions)
       ])
       (λ q h. elim (ℕ-discrete q j) [
         | yes e ↦ rw e (filled-plain g w r j room (omega arith))
-        | no d ↦ rw (other-row one q d 0 (omega arith)) (plain q (omega arith))
+        | no d ↦ rw (other-row one q d case-kind-field (omega arith)) (plain q (omega arith))
       ]) in
       record {
         only = only-then (one .only) (rest .only);

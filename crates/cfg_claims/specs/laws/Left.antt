@@ -126,7 +126,7 @@ steady-answer w r j x = elim (decLt j 8) [
 
 -- ---- The steps.
 steady-claimed : (w : List ℕ) (r : ℕ) → SteadyRecord w (as-claimed w r)
-steady-claimed w r = steady-then (steady-kind w r 3 (λ e. absurd (omega arith)))
+steady-claimed w r = steady-then (steady-kind w r kind-claimed (λ e. absurd (omega arith)))
     (steady-of (kinds-stored (stored w kinds r kind-claimed) bodies (omega arith) r r))
 
 steady-body : {g : Graph} {w w′ : List ℕ} {r : ℕ} {a : Claim} → Stands w g → ClaimsBody g w r w′ a → SteadyRecord w w′
@@ -185,16 +185,16 @@ module _ {g : Graph} {counts : List ℕ} where
 
     pub steady-structurized : {w w′ : List ℕ} {r : ℕ} {a : Verdict} → StructurizesRegion g counts w r w′ a → Stands w g → SteadyRecord w w′
     steady-structurized {w} {r} (refused-at-targets t) st =
-        let x = steady-kind w r 1 (λ e. absurd (omega arith)) in steady-then x (steady-targets t (stands-on (x .front) st))
+        let x = steady-kind w r kind-in-progress (λ e. absurd (omega arith)) in steady-then x (steady-targets t (stands-on (x .front) st))
     steady-structurized {w} {r} (refused-at-inst t i) st =
-        let x = steady-kind w r 1 (λ e. absurd (omega arith)) in
+        let x = steady-kind w r kind-in-progress (λ e. absurd (omega arith)) in
         steady-then x (steady-then (steady-targets t (stands-on (x .front) st)) (steady-of (inst-kinds i)))
     steady-structurized {w} {r} (refused-at-edges t i d) st =
-        let x = steady-kind w r 1 (λ e. absurd (omega arith)) in
+        let x = steady-kind w r kind-in-progress (λ e. absurd (omega arith)) in
         let y = steady-then x (steady-then (steady-targets t (stands-on (x .front) st)) (steady-of (inst-kinds i))) in
         steady-then y (steady-all d (stands-on (y .front) st))
     steady-structurized {w} {r} (structurized {w₃} t i d e) st =
-        let x = steady-kind w r 1 (λ e. absurd (omega arith)) in
+        let x = steady-kind w r kind-in-progress (λ e. absurd (omega arith)) in
         let y = steady-then x (steady-then (steady-targets t (stands-on (x .front) st)) (steady-of (inst-kinds i))) in
         steady-then (steady-then y (steady-all d (stands-on (y .front) st))) (rw e (steady-ready w₃ r))
 

@@ -209,7 +209,7 @@ pub begun-less : {w w₁ : List ℕ} {r : ℕ} → used ≤ length w → NotBegu
 begun-less {w} {r} s b e = rw e (begins-less w r (part-length (start kinds) (size kinds) w (omega arith)) b)
 
 pub begun-steady : {w w₁ : List ℕ} (r : ℕ) → w₁ ≡ stored w kinds r kind-in-progress → SteadyRecord w w₁
-begun-steady {w} r e = rw e (steady-kind w r 1 (λ z. absurd (omega arith)))
+begun-steady {w} r e = rw e (steady-kind w r kind-in-progress (λ z. absurd (omega arith)))
 
 -- What stands before the loop over region r's deferred edges, from words w to words w₃.
 pub record BeforeTurns (counts w : List ℕ) (r : ℕ) (w₃ : List ℕ) : Type 0 where

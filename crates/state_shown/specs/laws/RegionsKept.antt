@@ -14,7 +14,7 @@ use Rattle.state_shown.specs.Cells.{ShowsChildren}
 use Rattle.state_shown.specs.States.{ShowsOwnSet, ShowsRegion, is-not-begun, is-in-progress, is-ready, is-claimed, ShowsBody}
 use Rattle.state_shown.specs.States.{ShowsClaimed}
 use Rattle.state_shown.specs.Kept.{PreservesMade, KeptRegion}
-use Rattle.state_words.specs.Rows.{region-kind}
+use Rattle.state_words.specs.Rows.{region-kind, bundle-condition-field, bundle-count-field, bundle-target-field}
 
 pub preserves-same : (g : Graph) (w : List ℕ) → PreservesMade g w w
 preserves-same g w = record { front = front-same w; conditions-stay = λ c. c; nodes-stay = λ n. n }
@@ -39,9 +39,9 @@ module _ {g : Graph} {w w′ : List ℕ} (made-stays : PreservesMade g w w′) w
   bundle-stays same x =
       let four = x .few in
       record {
-        target = rw (same .words 0 (omega arith)) (x .target);
-        count = same .words 1 (omega arith) ∙ x .count;
-        condition = rw (same .words 2 (omega arith)) (made-stays .conditions-stay (x .condition));
+        target = rw (same .words bundle-target-field (omega arith)) (x .target);
+        count = same .words bundle-count-field (omega arith) ∙ x .count;
+        condition = rw (same .words bundle-condition-field (omega arith)) (made-stays .conditions-stay (x .condition));
         size = x .size;
         few = x .few;
         inputs = λ k h. rw (same .words (3 + k) (omega arith)) (x .inputs k h);
@@ -56,7 +56,7 @@ module _ {g : Graph} {w w′ : List ℕ} (made-stays : PreservesMade g w w′) w
         room = x .room;
         each = λ i h. bundle-stays (same i h) (x .each i h);
         apart = λ i j a b e. x .apart i j a b
-            (sym (same i (omega arith) .words 0 (omega arith)) ∙ e ∙ same j b .words 0 (omega arith));
+            (sym (same i (omega arith) .words bundle-target-field (omega arith)) ∙ e ∙ same j b .words bundle-target-field (omega arith));
       }
 
 pub kept-same : (w : List ℕ) (q : ℕ) → KeptRegion w w q

@@ -29,7 +29,7 @@ use Rattle.state_shown.specs.laws.SetStores.{starts-of-sets}
 use Rattle.state_shown.specs.laws.SetStores.{lengths-of-sets, bundles-of-sets, word-other, run-elsewhere-word, Moves}
 use Rattle.state_shown.specs.laws.SetStores.{moves-then, same-moves, same-elsewhere, bundle-stored, copy-moves, copy-beside}
 use Rattle.state_words.specs.Rows.{bundle-condition, bundle-row-at, bundle-target, bundle-word, most-bundles, slot-count, slot-size}
-use Rattle.state_words.specs.Rows.{condition-true, bundle-row-size}
+use Rattle.state_words.specs.Rows.{condition-true, bundle-row-size, bundle-condition-field, bundle-count-field, bundle-target-field}
 
 -- ---- Bundles and sets, moved.
 module _ {g : Graph} {w w′ : List ℕ} (made-stays : PreservesMade g w w′) where
@@ -37,9 +37,9 @@ module _ {g : Graph} {w w′ : List ℕ} (made-stays : PreservesMade g w w′) w
   bundle-moves same x =
       let four = x .few in
       record {
-        target = rw (same .words 0 (omega arith)) (x .target);
-        count = same .words 1 (omega arith) ∙ x .count;
-        condition = rw (same .words 2 (omega arith)) (made-stays .conditions-stay (x .condition));
+        target = rw (same .words bundle-target-field (omega arith)) (x .target);
+        count = same .words bundle-count-field (omega arith) ∙ x .count;
+        condition = rw (same .words bundle-condition-field (omega arith)) (made-stays .conditions-stay (x .condition));
         size = x .size;
         few = x .few;
         inputs = λ k h. rw (same .words (3 + k) (omega arith)) (x .inputs k h);
@@ -59,7 +59,7 @@ module _ {g : Graph} {w w′ : List ℕ} (made-stays : PreservesMade g w w′) w
         each = λ j h. rw (is j h) (bundle-moves (moves j h) (x .each (f j) (within j h)));
         apart = λ i j a b e.
             let same : bundle-target w (start + f i) ≡ bundle-target w (start + f j) =
-            sym (moves i (omega arith) .words 0 (omega arith)) ∙ e ∙ moves j b .words 0 (omega arith) in
+            sym (moves i (omega arith) .words bundle-target-field (omega arith)) ∙ e ∙ moves j b .words bundle-target-field (omega arith) in
             elim (decLt (f i) (f j)) [
               | yes h ↦ x .apart (f i) (f j) h (within j b) same
               | no h ↦ x .apart (f j) (f i) (let z = differ i j a b in
@@ -455,9 +455,9 @@ bundle-made {g} w p {t} {n} {c} ws room h four target condition size few names =
     λ i k. bundle-stored w p xs seven room h i k in
     let made-stays = only-preserves (only-run w bundles-of-sets (bundle-row-at p) xs) g in
     record {
-      target = rw (at 0 (omega arith)) target;
-      count = at 1 (omega arith);
-      condition = rw (at 2 (omega arith)) (made-stays .conditions-stay condition);
+      target = rw (at bundle-target-field (omega arith)) target;
+      count = at bundle-count-field (omega arith);
+      condition = rw (at bundle-condition-field (omega arith)) (made-stays .conditions-stay condition);
       size = size;
       few = few;
       inputs = λ k j. let e : 3 + k ≡ suc (suc (suc k)) = omega arith in rw (at (3 + k) (omega arith), e) (names k j);

@@ -147,7 +147,7 @@ module _ {g : Graph} {w : List ℕ} {s : NestState} (shown : ShowsState g w s) (
   pub begun-shown : ShowsState g (stored w kinds r kind-in-progress) (with-state s r in-progress)
   begun-shown =
       let room = shown .tables .size in
-      kind-set g w room r below 1 shown in-graph (is-in-progress (word-there w kinds r kind-in-progress (omega arith) below))
+      kind-set g w room r below kind-in-progress shown in-graph (is-in-progress (word-there w kinds r kind-in-progress (omega arith) below))
 
   pub begun-cells : region-kind w r ≡ kind-not-begun → cells-in-all g (stored w kinds r kind-in-progress) + 11 ≡ cells-in-all g w
   begun-cells e =

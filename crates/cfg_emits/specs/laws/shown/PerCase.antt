@@ -30,7 +30,7 @@ use Rattle.cfg_emits.specs.Emits.{InCases, value-in-case}
 use Rattle.cfg_emits.specs.laws.paths.EmitsLaws.{value-none, value-some}
 use Rattle.cfg_select_nodes.specs.laws.shown.StepsShown.{SelectStep}
 use Rattle.state_words.specs.Values.{parts, undef-from}
-use Rattle.state_words.specs.Rows.{case-set-length, case-set-start, no-bundle-word}
+use Rattle.state_words.specs.Rows.{case-set-length, case-set-start, no-bundle-word, case-set-start-field}
 
 -- ---- The cases' bundles to a target.
 pub record ShowsPlaces (w : List ℕ) (x : DeferredTarget) (cs : List MaybeClaimedRegion) (places : List ℕ) : Type 0 where
@@ -48,7 +48,7 @@ places-shown {w} {cs} shown few {t} {x} target =
 
 pub places-stay : {g : Graph} {r : ℕ} {w w′ : List ℕ} → SelectStep g r w w′ → {x : DeferredTarget} {cs : List MaybeClaimedRegion}
     {places : List ℕ} → ShowsPlaces w x cs places → ShowsPlaces w′ x cs places
-places-stay s p = record { each = λ j h. rw (s .case-words j 4 (omega arith) (omega arith)) (p .each j h) }
+places-stay s p = record { each = λ j h. rw (s .case-words j case-set-start-field (omega arith) (omega arith)) (p .each j h) }
 
 -- ---- By whether a set has a bundle to the target.
 per-case-some : (x : DeferredTarget) (d : DeferredEdgeBundleSet) (e : DeferredEdgeBundle) → get-edge-bundle-by-target x d ≡ some e

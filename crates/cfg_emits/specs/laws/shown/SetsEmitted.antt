@@ -41,7 +41,7 @@ use Rattle.cfg_emits.specs.laws.shown.EmitsShown.{InputsDone}
 use Rattle.cfg_emits.specs.laws.shown.EmitsShown.{inputs-shown}
 use Rattle.nesting.specs.steps.TargetsAndCases.{per-cases}
 use Rattle.state_words.specs.Rows.{bundle-condition, bundle-condition-at, bundle-target, bundle-word, bundle-word-at, cell-word-at}
-use Rattle.state_words.specs.Rows.{cells-at, bundle-row-size, bundle-condition-field, slot-size}
+use Rattle.state_words.specs.Rows.{cells-at, bundle-row-size, bundle-condition-field, slot-size, bundle-count-field, bundle-target-field}
 use Rattle.state_words.specs.Rows.{most-bundles, select-node, select-scrutinee, select-shape, spare-slot}
 
 -- The cell of a select with this many cases.
@@ -157,10 +157,10 @@ module _ {g : Graph} {r base : ℕ} {cs : List MaybeClaimedRegion} (few : length
       record {
         emitting = emitting-then (first .emitting) (second .emitting);
         tables = second .tables;
-        same-target = field 0 (omega arith);
+        same-target = field bundle-target-field (omega arith);
         shown = record {
-          target = rw (field 0 (omega arith)) (planned .target);
-          count = field 1 (omega arith) ∙ planned .count;
+          target = rw (field bundle-target-field (omega arith)) (planned .target);
+          count = field bundle-count-field (omega arith) ∙ planned .count;
           condition = second .shown;
           size = long ∙ size;
           few = omega arith;
@@ -221,9 +221,9 @@ pub planned-stays : {g : Graph} {cs : List MaybeClaimedRegion} {w w′ : List �
 planned-stays same x =
     let most = x .few in
     record {
-      target = rw (same .words 0 (omega arith)) (x .target);
-      count = same .words 1 (omega arith) ∙ x .count;
-      condition = rw (same .words 2 (omega arith)) (x .condition);
+      target = rw (same .words bundle-target-field (omega arith)) (x .target);
+      count = same .words bundle-count-field (omega arith) ∙ x .count;
+      condition = rw (same .words bundle-condition-field (omega arith)) (x .condition);
       size = x .size;
       few = x .few;
       inputs = λ k h. rw (same .words (3 + k) (omega arith)) (x .inputs k h);
@@ -249,10 +249,10 @@ with-bundle {base} {i} {many} {e} first (shows-made {a = d} rest) =
       emitting = emitting-then (emitting-within x (omega arith) (omega arith)) (emitting-within y (omega arith) (omega arith));
       tables = rest .tables;
       same-targets = elim [
-        | zero ↦ (λ b. rw z (here .words 0 (omega arith) ∙ first .same-target))
+        | zero ↦ (λ b. rw z (here .words bundle-target-field (omega arith) ∙ first .same-target))
         | suc j ↦ (λ b. let u : i + suc j ≡ suc i + j = omega arith in
             rw u (rest .same-targets j (omega arith)
-            ∙ x .beside (base + (suc i + j)) (λ a c. omega arith) .words 0 (omega arith)))
+            ∙ x .beside (base + (suc i + j)) (λ a c. omega arith) .words bundle-target-field (omega arith)))
       ];
       size = ap suc (rest .size);
       each = elim [

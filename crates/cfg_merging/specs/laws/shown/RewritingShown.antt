@@ -45,7 +45,9 @@ use Rattle.state_shown.specs.laws.RegionSteps.{named-by, slots-stay}
 use Rattle.state_words.specs.Rows.{bundle-input-at, bundle-row-at, bundle-target, bundle-word, bundle-word-at, case-claimed, case-input}
 use Rattle.state_words.specs.Rows.{case-input-at, case-kind, case-origin, case-row-at, case-row-size, case-set-length, case-set-start}
 use Rattle.state_words.specs.Rows.{case-word, case-word-at, cases-at, cells-at, kind-ready, level-at, merges-at, most-bundles, region-kind}
-use Rattle.state_words.specs.Rows.{returned-at, types-at, slot-size, twice-at, return-word, spare-slot}
+use Rattle.state_words.specs.Rows.{returned-at, types-at, slot-size, twice-at, return-word, spare-slot, bundle-condition-field}
+use Rattle.state_words.specs.Rows.{bundle-count-field, bundle-target-field, case-body-field, case-children-field, case-kind-field}
+use Rattle.state_words.specs.Rows.{case-origin-field, case-set-length-field, case-set-start-field}
 
 -- ---- What rewriting leaves: all but the note, the cases' inputs and the bundles' inputs.
 pub record Stays (w w′ : List ℕ) : Type 0 where
@@ -167,9 +169,9 @@ module _ (g : Graph) (valid : Valid g) where
           stays = row-stays;
           same-cases = row-is .changes .others cases (omega arith) (omega arith);
           shown = record {
-            target = rw (row-stays .bundle-fields p 0 (omega arith)) (x .target);
-            count = row-stays .bundle-fields p 1 (omega arith) ∙ x .count;
-            condition = rw (row-stays .bundle-fields p 2 (omega arith)) (stays-preserves g row-stays .conditions-stay (x .condition));
+            target = rw (row-stays .bundle-fields p bundle-target-field (omega arith)) (x .target);
+            count = row-stays .bundle-fields p bundle-count-field (omega arith) ∙ x .count;
+            condition = rw (row-stays .bundle-fields p bundle-condition-field (omega arith)) (stays-preserves g row-stays .conditions-stay (x .condition));
             size = same ∙ x .size;
             few = rw same few;
             inputs = λ k h. let e : 0 + k ≡ k = omega arith in rw e at (row-is .named k (rw same at h));
@@ -363,10 +365,10 @@ module _ (g : Graph) (valid : Valid g) where
           same-bundles = row .changes .others bundles (omega arith) (omega arith);
           shown = shows-ok {c = claimed-as (c .origin) (c .structured-body) (looked-up s (c .structured-body-inputs)) (c .children)
               (map (λ e. bundle-found s e .value) (c .deferred-edges))}
-              (st .case-fields j 0 (omega arith) ∙ kind) (st .case-fields j 1 (omega arith) ∙ origin) in-graph
-              (st .case-fields j 2 (omega arith) ∙ body) lower
-              (rw (st .case-fields j 3 (omega arith)) (stays-preserves g st .nodes-stay nodes))
-              (st .case-fields j 4 (omega arith) ∙ start ∙ ap (λ z. getD z (c .origin) 0) (sym starts))
+              (st .case-fields j case-kind-field (omega arith) ∙ kind) (st .case-fields j case-origin-field (omega arith) ∙ origin) in-graph
+              (st .case-fields j case-body-field (omega arith) ∙ body) lower
+              (rw (st .case-fields j case-children-field (omega arith)) (stays-preserves g st .nodes-stay nodes))
+              (st .case-fields j case-set-start-field (omega arith) ∙ start ∙ ap (λ z. getD z (c .origin) 0) (sym starts))
               (length-map (c .structured-body-inputs) (λ v. ρ s v .value) ∙ size)
               (given-named c kind origin in-graph size inputs);
           before = λ x h. row .before x (omega arith);
@@ -406,7 +408,7 @@ module _ (g : Graph) (valid : Valid g) where
       let start = case-set-start m j in
       let n = case-set-length m j in
       let old-set : ShowsSet g m start n (deferred-of c) =
-      rw (st .case-fields j 4 (omega arith), st .case-fields j 5 (omega arith))
+      rw (st .case-fields j case-set-start-field (omega arith), st .case-fields j case-set-length-field (omega arith))
       (set-stays (stays-preserves g st) (λ i h. record {
         words = λ q b. ap (λ z. getD z (bundle-word-at (case-set-start l j + i) q) 0)
             (given .same-bundles);
@@ -417,13 +419,13 @@ module _ (g : Graph) (valid : Valid g) where
       record {
         stays = stays-then st (set .stays);
         shown = inputs-stay (set .stays) r j (λ k h. ap (λ z. getD z (case-input-at j k) 0) (set .same-cases)) (given .shown);
-        set = rw (deferred-found s c, set .stays .case-fields j 4 (omega arith), set .stays .case-fields j 5 (omega arith))
+        set = rw (deferred-found s c, set .stays .case-fields j case-set-start-field (omega arith), set .stays .case-fields j case-set-length-field (omega arith))
             (set-shown old-set set);
         before = λ q h. ap (λ z. getD z q 0) (set .same-cases) ∙ given .before q h;
         behind = λ q h. ap (λ z. getD z q 0) (set .same-cases) ∙ given .behind q h;
         outside = λ q h.
-            let a = st .case-fields j 4 (omega arith) in
-            let b = st .case-fields j 5 (omega arith) in
+            let a = st .case-fields j case-set-start-field (omega arith) in
+            let b = st .case-fields j case-set-length-field (omega arith) in
             let size = old-set .size in
             same-bundle-then (record { words = λ i d. ap (λ z. getD z (bundle-word-at q i) 0) (given .same-bundles) })
             (elim (decLt q start) [
@@ -459,7 +461,7 @@ module _ (g : Graph) (valid : Valid g) where
       → {d : DeferredEdgeBundleSet} → ShowsSet g l (case-set-start l j) (case-set-length l j) d
       → ShowsSet g l′ (case-set-start l′ j) (case-set-length l′ j) d
   moved-set st j same x =
-      rw (st .case-fields j 4 (omega arith), st .case-fields j 5 (omega arith)) (set-stays (stays-preserves g st) same x)
+      rw (st .case-fields j case-set-start-field (omega arith), st .case-fields j case-set-length-field (omega arith)) (set-stays (stays-preserves g st) same x)
 
   cases-turned : (r : ℕ) (cs : List MaybeClaimedRegion) (s : NestState) → ((q : ℕ) → ChainsEnd (s .region-input-rewrites) q)
       → (l : List ℕ) → ShowsTables l s → NamedRewrites l → ShowsReturned g l → (j : ℕ) → j + length cs ≤ 8
@@ -507,8 +509,8 @@ module _ (g : Graph) (valid : Valid g) where
       )
       (apart (suc a) (suc b) p q (omega arith) (omega arith))) in
       let l′ = turned case-step l₁ (length cs) (suc j) in
-      let length-of : (k : ℕ) → case-set-length l₁ k ≡ case-set-length l k = λ k. st .case-fields k 5 (omega arith) in
-      let start-of : (k : ℕ) → case-set-start l₁ k ≡ case-set-start l k = λ k. st .case-fields k 4 (omega arith) in
+      let length-of : (k : ℕ) → case-set-length l₁ k ≡ case-set-length l k = λ k. st .case-fields k case-set-length-field (omega arith) in
+      let start-of : (k : ℕ) → case-set-start l₁ k ≡ case-set-start l k = λ k. st .case-fields k case-set-start-field (omega arith) in
       let us = map (λ x. case-found s x .value) cs in
       record {
         stays = stays-then st (ih .stays);
@@ -644,12 +646,12 @@ module _ (g : Graph) (valid : Valid g) (w : List ℕ) (r : ℕ) (s : NestState) 
             each = λ j h. rw (from-zero j) at (whole .each j (rw same at h));
             sets = λ j h. rw (from-zero j) at (whole .sets j (rw same at h));
             apart = λ i j p q a b. rw (
-              st .case-fields i 5 (omega arith),
-              st .case-fields j 5 (omega arith),
-              st .case-fields i 4 (omega arith),
-              st .case-fields j 4 (omega arith),
+              st .case-fields i case-set-length-field (omega arith),
+              st .case-fields j case-set-length-field (omega arith),
+              st .case-fields i case-set-start-field (omega arith),
+              st .case-fields j case-set-start-field (omega arith),
             ) (x .apart i j p q a (rw same at b));
-            not-spare = λ j p q a. rw (st .case-fields j 5 (omega arith), st .case-fields j 4 (omega arith), starts spare-slot)
+            not-spare = λ j p q a. rw (st .case-fields j case-set-length-field (omega arith), st .case-fields j case-set-start-field (omega arith), starts spare-slot)
                 (x .not-spare j p q (rw same at a));
           };
           state = record {

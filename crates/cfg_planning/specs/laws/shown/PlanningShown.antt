@@ -42,7 +42,8 @@ use Rattle.cfg_planning.specs.laws.shown.PerCaseShown.{case-at-stays, ca
 use Rattle.nesting.specs.steps.TargetsAndCases.{per-cases}
 use Rattle.state_words.specs.Rows.{bundle-condition, bundle-condition-at, bundle-count, bundle-count-at, bundle-input, bundle-input-at}
 use Rattle.state_words.specs.Rows.{bundle-row-at, bundle-row-size, bundle-target, bundle-target-at, bundle-word-at, no-bundle-word}
-use Rattle.state_words.specs.Rows.{own-edges-from, spare-slot, condition-true, slot-size}
+use Rattle.state_words.specs.Rows.{own-edges-from, spare-slot, condition-true, slot-size, bundle-condition-field, bundle-count-field}
+use Rattle.state_words.specs.Rows.{bundle-target-field}
 
 -- ---- A planned bundle in a row: an input that is to be merged is 65535, a condition that is to be made 0.
 pub data ShowsPlannedInput (a : ℕ) : PlannedInput → Type 0 where
@@ -168,9 +169,9 @@ or-true false = refl
 row-stays : {g : Graph} {l l′ : List ℕ} {p : ℕ} {t : DeferredTargetSummary} → SameBundle l l′ p → ShowsRow g l p t → ShowsRow g l′ p t
 row-stays same row =
     record {
-      target = rw (same .words 0 (omega arith)) (row .target);
-      count = same .words 1 (omega arith) ∙ row .count;
-      condition = same .words 2 (omega arith) ∙ row .condition;
+      target = rw (same .words bundle-target-field (omega arith)) (row .target);
+      count = same .words bundle-count-field (omega arith) ∙ row .count;
+      condition = same .words bundle-condition-field (omega arith) ∙ row .condition;
       size = row .size;
       few = row .few;
     }
@@ -180,9 +181,9 @@ pub planned-stays : {g : Graph} {l l′ : List ℕ} {p : ℕ} {b : PlannedBundle
 planned-stays same x =
     let few = x .few in
     record {
-      target = rw (same .words 0 (omega arith)) (x .target);
-      count = same .words 1 (omega arith) ∙ x .count;
-      condition = rw (same .words 2 (omega arith)) (x .condition);
+      target = rw (same .words bundle-target-field (omega arith)) (x .target);
+      count = same .words bundle-count-field (omega arith) ∙ x .count;
+      condition = rw (same .words bundle-condition-field (omega arith)) (x .condition);
       size = x .size;
       few = x .few;
       inputs = λ k h. rw (same .words (3 + k) (omega arith)) (x .inputs k h);

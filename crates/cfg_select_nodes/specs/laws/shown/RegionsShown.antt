@@ -26,7 +26,7 @@ use Rattle.cfg_select_nodes.specs.laws.shown.Places.{From, first-of, res
 use Rattle.nesting.specs.steps.TargetsAndCases.{children-in}
 use Rattle.format.specs.Refusals.{too-many}
 use Rattle.state_words.specs.Rows.{case-body, case-body-at, case-claimed, case-kind, case-row-at, case-word, case-word-at, regions-at}
-use Rattle.state_words.specs.Rows.{case-row-size, case-body-field}
+use Rattle.state_words.specs.Rows.{case-row-size, case-body-field, case-kind-field}
 
 -- What a step of the code answers shows what the definition's step gives, or refusal 9.
 pub data ShowsMade {A : Type 0} (R : A → NestState → Type 0) : Made → StepAnswer A → Type 0 where
@@ -63,7 +63,7 @@ keeps-then a b =
       changes = changes-then (a .changes) (b .changes);
       before = λ i h. b .before i (omega arith) ∙ a .before i h;
       words = λ k i h d. b .words k i h d ∙ a .words k i h d;
-      bodies = λ k e. b .bodies k (a .words k 0 (omega arith) (omega arith) ∙ e) ∙ a .bodies k e;
+      bodies = λ k e. b .bodies k (a .words k case-kind-field (omega arith) (omega arith) ∙ e) ∙ a .bodies k e;
     }
 
 total-kept : {limit : ℕ} {w w₁ : List ℕ} {a : Defined} → Defines 0 limit w w₁ a → (j : ℕ) → KeepsCases j w w₁
@@ -94,14 +94,14 @@ keeps-both a b =
       changes = changes-then (a .changes) (b .changes);
       before = λ i h. b .before i h ∙ a .before i h;
       words = λ k i h d. b .words k i h d ∙ a .words k i h d;
-      bodies = λ k e. b .bodies k (a .words k 0 (omega arith) (omega arith) ∙ e) ∙ a .bodies k e;
+      bodies = λ k e. b .bodies k (a .words k case-kind-field (omega arith) (omega arith) ∙ e) ∙ a .bodies k e;
     }
 
 region-keeps : {j : ℕ} {w w′ : List ℕ} {a : Made} → GetsRegion j w w′ a → KeepsCases j w w′
 region-keeps {j} {w} (has-region k e) = rw e (keeps-same j w)
 region-keeps {j} (new-region {r} {l₁} d x e) =
     let a = total-kept x j in
-    rw e (keeps-both a (body-kept l₁ j r (λ z. d (sym (a .words j 0 (omega arith) (omega arith)) ∙ z))))
+    rw e (keeps-both a (body-kept l₁ j r (λ z. d (sym (a .words j case-kind-field (omega arith) (omega arith)) ∙ z))))
 region-keeps {j} (no-region d x) = total-kept x j
 
 pub regions-keep : {n j : ℕ} {w w′ : List ℕ} {a : Made} → Turns GetsRegion n j w w′ a → KeepsCases j w w′
@@ -133,8 +133,8 @@ kind-shown (shows-edge k a z) = kind-err (omega arith)
 kind-shown (shows-others k a) = kind-err (omega arith)
 
 kind-keeps : {j k : ℕ} {w w′ : List ℕ} → KeepsCases j w w′ → {c : MaybeClaimedRegion} → ShowsKind w k c → ShowsKind w′ k c
-kind-keeps {k} a (kind-ok e b) = kind-ok (a .words k 0 (omega arith) (omega arith) ∙ e) (a .bodies k e ∙ b)
-kind-keeps {k} a (kind-err d) = kind-err (λ e. d (sym (a .words k 0 (omega arith) (omega arith)) ∙ e))
+kind-keeps {k} a (kind-ok e b) = kind-ok (a .words k case-kind-field (omega arith) (omega arith) ∙ e) (a .bodies k e ∙ b)
+kind-keeps {k} a (kind-err d) = kind-err (λ e. d (sym (a .words k case-kind-field (omega arith) (omega arith)) ∙ e))
 
 -- The definition's cases, with the numbers that the words have then.
 abbrev pub RegionsDone : ℕ → List MaybeClaimedRegion → List ℕ → Cases → NestState → Type 0

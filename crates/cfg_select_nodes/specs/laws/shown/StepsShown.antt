@@ -20,7 +20,7 @@ use Rattle.state_shown.specs.laws.RegionsKept.{set-stays}
 use Rattle.state_shown.specs.laws.RegionSteps.{OfNoRegion, kept-by, bundles-same, StatesStay, word-concerns, preserves-by, kept-word}
 use Rattle.cfg_select_nodes.specs.laws.shown.RegionsShown.{KeepsCases}
 use Rattle.state_words.specs.Rows.{case-body, case-body-at, case-claimed, case-kind, case-set-length, case-set-start, case-word, slot-size}
-use Rattle.state_words.specs.Rows.{case-word-at, bundle-row-size, case-row-size, case-body-field}
+use Rattle.state_words.specs.Rows.{case-word-at, bundle-row-size, case-row-size, case-body-field, case-kind-field}
 use Rattle.state_words.specs.Rows.{cases-at, kind-ready, region-kind, spare-slot}
 
 pub record SelectStep (g : Graph) (r : ℕ) (w w′ : List ℕ) : Type 0 where
@@ -54,7 +54,7 @@ step-then a b =
       same-starts = λ q. b .same-starts q ∙ a .same-starts q;
       same-head = λ k h. b .same-head k h ∙ a .same-head k h;
       case-words = λ k i h d. b .case-words k i h d ∙ a .case-words k i h d;
-      case-bodies = λ k e. b .case-bodies k (a .case-words k 0 (omega arith) (omega arith) ∙ e) ∙ a .case-bodies k e;
+      case-bodies = λ k e. b .case-bodies k (a .case-words k case-kind-field (omega arith) (omega arith) ∙ e) ∙ a .case-bodies k e;
       others = λ q h d. kept-then (a .others q h d) (b .others q h d);
       bundles-kept = λ p d. same-bundle-then (a .bundles-kept p d)
           (b .bundles-kept p (λ i h e. d i h (ap (λ x. x + i) (sym (a .same-starts 32)) ∙ e)));

@@ -23,7 +23,7 @@ use Rattle.cfg_merging.specs.laws.shown.RewritingShown.{cases-after, case-found
 use Rattle.cfg_merging.specs.laws.shown.TargetsShown.{edges-of-cases, edges-of-set}
 use Rattle.cfg_selects.specs.Into.{set-aside}
 use Rattle.state_words.specs.Rows.{case-input, case-nothing, case-set-length, case-set-start, case-word, kind-claimed, region-kind}
-use Rattle.state_words.specs.Rows.{case-row-size, spare-slot}
+use Rattle.state_words.specs.Rows.{case-row-size, spare-slot, case-set-length-field, case-set-start-field}
 
 module _ {g : Graph} (few : length (g .regions) ≤ 32) {r : ℕ} (here : r < length (g .regions)) {w : List ℕ} (room : used ≤ length w)
     (slots : Slots (length (g .regions)) w) {cs : List MaybeClaimedRegion} (shown : ShowsCases g w r cs) (j : ℕ)
@@ -65,12 +65,12 @@ module _ {g : Graph} (few : length (g .regions) ≤ 32) {r : ℕ} (here : r < le
         apart = λ i k p q a b c d e.
             let x = other-case i p c in
             let y = other-case k q d in
-            shown .apart i k p q a (omega arith) (rw (field i 5 x (omega arith)) at c) (rw (field k 5 y (omega arith)) at d)
-            (rw (field i 4 x (omega arith), field k 4 y (omega arith)) at e);
+            shown .apart i k p q a (omega arith) (rw (field i case-set-length-field x (omega arith)) at c) (rw (field k case-set-length-field y (omega arith)) at d)
+            (rw (field i case-set-start-field x (omega arith), field k case-set-start-field y (omega arith)) at e);
         not-spare = λ k p q a b c e.
             let x = other-case k p b in
-            shown .not-spare k p q (omega arith) (rw (field k 5 x (omega arith)) at b) c
-            (rw (field k 4 x (omega arith), one .starts spare-slot) at e);
+            shown .not-spare k p q (omega arith) (rw (field k case-set-length-field x (omega arith)) at b) c
+            (rw (field k case-set-start-field x (omega arith), one .starts spare-slot) at e);
       }
 
 -- ---- Where every convergent case is taken out, nothing is deferred.

@@ -35,7 +35,7 @@ use Rattle.cfg_start.specs.InitialState.{started}
 use Rattle.cfg_start.specs.InitialState.{types-stored}
 use Rattle.cfg_start.specs.laws.paths.InitialStateLaws.{emptied-front}
 use Rattle.state_words.specs.Rows.{cells-at, entries-at, entry-none, kind-not-begun, region-kind, regions-at, returned-at, spare-slot}
-use Rattle.state_words.specs.Rows.{types-at, slot-size, cases-at}
+use Rattle.state_words.specs.Rows.{types-at, slot-size, cases-at, attempts-at, merges-at, nodes-at, outputs-at, twice-at}
 
 -- ---- How many blocks there are: no sum is as large as a word.
 module _ {g : Graph} (valid : Valid g) where
@@ -209,12 +209,12 @@ initial-state-shown {g} {w} valid stands room e =
         stands = stands-on (started-front g w room) stands;
         tables = record {
           size = omega arith;
-          region-total = first-words g w room 0 (omega arith);
-          node-total = first-words g w room 1 (omega arith) ∙ omega arith;
-          merge-total = first-words g w room 2 (omega arith);
-          output-total = first-words g w room 3 (omega arith);
-          attempts = first-words g w room 5 (omega arith);
-          twice = first-words g w room 6 (omega arith);
+          region-total = first-words g w room regions-at (omega arith);
+          node-total = first-words g w room nodes-at (omega arith) ∙ omega arith;
+          merge-total = first-words g w room merges-at (omega arith);
+          output-total = first-words g w room outputs-at (omega arith);
+          attempts = first-words g w room attempts-at (omega arith);
+          twice = first-words g w room twice-at (omega arith);
           few-regions = omega arith;
           few-nodes = omega arith;
           few-merges = omega arith;
@@ -231,7 +231,7 @@ initial-state-shown {g} {w} valid stands room e =
           types = λ k h. type-word g w room k (omega arith) ∙ returned-is g k (omega arith);
         };
       };
-      cell-total = first-words g w room 4 (omega arith);
+      cell-total = first-words g w room cells-at (omega arith);
       no-kinds = λ q h. no-kind g w room q h (omega arith);
       front = started-front g w room;
     }
