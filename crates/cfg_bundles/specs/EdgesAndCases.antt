@@ -70,7 +70,8 @@ return-deferred g l r =
 
 -- ---- Cases.
 abbrev pub unclaimed-case : ℕ → ℕ → ℕ → Case
-unclaimed-case kind start length = record { kind = kind; origin = 0; body = 0; children = record { 0 = 0 }; start = record { 0 = start }; length = length }
+unclaimed-case kind start length =
+    record { kind = kind; origin = 0; body = 0; children = record { 0 = 0 }; start = record { 0 = start }; length = length }
 
 abbrev pub claimed-case : List ℕ → ℕ → Case
 claimed-case l t =

@@ -36,10 +36,12 @@ mutual
   pub data Materializes : List ℕ → ℕ → List ℕ → Defined → Type 0 where
     made-true : {l l′ : List ℕ} {c : ℕ} → c ≡ condition-true → l′ ≡ l → Materializes l c l′ (Number true-word)
     made-false : {l l′ : List ℕ} {c : ℕ} → c ≡ condition-false → l′ ≡ l → Materializes l c l′ (Number false-word)
-    made-undef : {l l′ : List ℕ} {c x : ℕ} → (c ≡ condition-true → ⊥) → (c ≡ condition-false → ⊥) → c < merges-from → x ≡ undef-word 1 → l′ ≡ l → Materializes l c l′ (Number x)
+    made-undef : {l l′ : List ℕ} {c x : ℕ} → (c ≡ condition-true → ⊥) → (c ≡ condition-false → ⊥) → c < merges-from → x ≡ undef-word 1
+        → l′ ≡ l → Materializes l c l′ (Number x)
     made-merge : {l l₁ l′ vs : List ℕ} {c : ℕ} {a : Defined} → merges-from ≤ c → PartsMade l c (shape-size (shape-at l c)) l₁ vs
         → Merges l₁ c vs l′ a → Materializes l c l′ a
-    full-part : {l l₁ l′ vs : List ℕ} {c j p : ℕ} → merges-from ≤ c → j < shape-size (shape-at l c) → PartsMade l c j l₁ vs → p ≡ part-at l₁ c j
+    full-part : {l l₁ l′ vs : List ℕ} {c j p : ℕ} → merges-from ≤ c → j < shape-size (shape-at l c) → PartsMade l c j l₁ vs
+        → p ≡ part-at l₁ c j
         → Materializes l₁ p l′ Full
         → Materializes l c l′ Full
 

@@ -126,7 +126,8 @@ cell-figure-blocks-figure-requires : (t : ℕ) → cell-figure-lts.Need-blocks-f
     cell-figure.Post
 cell-figure-blocks-figure-requires t c κs = search needs
 
-cell-figure-held-at-limit-requires : (t : ℕ) → cell-figure-lts.Need-held-at-limit-requires (cell-figure-called t) (cell-figure-at t) cell-figure.Post
+cell-figure-held-at-limit-requires : (t : ℕ) → cell-figure-lts.Need-held-at-limit-requires (cell-figure-called t)
+    (cell-figure-at t) cell-figure.Post
 cell-figure-held-at-limit-requires t c κs = search needs
 
 cell-figure-returns : (t : ℕ) → cell-figure-lts.Need-returns (cell-figure-called t) (cell-figure-at t) cell-figure.Post
@@ -215,7 +216,8 @@ cell-figure-figure-requires-2 t c κs =
       tt,
     )
 
-cell-figure-add-held-at-limit-2 : (t : ℕ) → cell-figure-lts.Need-add-held-at-limit-2 (cell-figure-called t) (cell-figure-at t) cell-figure.Post
+cell-figure-add-held-at-limit-2 : (t : ℕ) → cell-figure-lts.Need-add-held-at-limit-2 (cell-figure-called t)
+    (cell-figure-at t) cell-figure.Post
 cell-figure-add-held-at-limit-2 t c = search needs
 
 cell-figure-mul-held-at-limit : (t : ℕ) → cell-figure-lts.Need-mul-held-at-limit (cell-figure-called t) (cell-figure-at t) cell-figure.Post
@@ -316,7 +318,8 @@ figure-cell-figure-requires : (t : ℕ) → figure-lts.Need-cell-figure-requires
     figure-μ-loop
 figure-cell-figure-requires t c κs = (omega (arith, c .before .before .before .pre .0, c .before .before .loop .inv .below), c .if1 .taken)
 
-figure-add-held-at-limit : (t : ℕ) → figure-lts.Need-add-held-at-limit (figure-called t) (figure-at t) figure.Post figure-Inv-loop figure-μ-loop
+figure-add-held-at-limit : (t : ℕ) → figure-lts.Need-add-held-at-limit (figure-called t)
+    (figure-at t) figure.Post figure-Inv-loop figure-μ-loop
 figure-add-held-at-limit t c = search needs
 
 figure-held-at-limit-requires : (t : ℕ) → figure-lts.Need-held-at-limit-requires (figure-called t) (figure-at t) figure.Post figure-Inv-loop

@@ -35,7 +35,8 @@ refusal-requires c κs =
     let turn = at-read-region .before .before in
     let at-loop = turn .before in
     let start = at-loop .before .before .before .before in
-    number-of-region _ _ _ _ _ (at-read-region .read-region .result) (at-loop .loop .inv .0) (at-loop .loop .inv .1) (turn .loop-test .taken)
+    number-of-region _ _ _ _ _ (at-read-region .read-region .result) (at-loop .loop .inv .0) (at-loop .loop .inv .1)
+    (turn .loop-test .taken)
     (start .pre .0) (at-read-region .read-region .ensures) (c .before .step .given .1)
 
 returns : tie.Need-returns Inv-loop μ-loop
@@ -90,7 +91,8 @@ loop-again c =
 returns-2 : tie.Need-returns-2 Inv-loop μ-loop
 returns-2 c =
     regions-read _ _ _ _ (c .before .before .before .loop .inv .0) (c .before .before .loop-test .left)
-    (omega (arith, c .before .before .before .before .before .tells-length-arg2 .given)) (c .if1 .taken ∙ c .before .before .before .loop .inv .1)
+    (omega (arith, c .before .before .before .before .before .tells-length-arg2 .given))
+    (c .if1 .taken ∙ c .before .before .before .loop .inv .1)
 
 returns-3 : tie.Need-returns-3 Inv-loop μ-loop
 returns-3 c =

@@ -122,7 +122,8 @@ module _ (w : List ℕ) (r : ℕ) {entry : ℕ} (is-entry : OfRecord w (λ g. en
     not-entry : (g : Graph) (s : NestState) → Concluded g w s → eqb r (g .entry) ≡ false
     not-entry g s c = ne-eqb r (g .entry) (λ e. other (e ∙ sym (is-entry g (c .state .stands))))
 
-    pub ready-set-put : {out out′ : List ℕ} {at at′ : Place} → k ≡ kind-ready → PutsSet w r out at out′ at′ → PutsGivenSet w r out at out′ at′
+    pub ready-set-put : {out out′ : List ℕ} {at at′ : Place} → k ≡ kind-ready → PutsSet w r out at out′ at′
+        → PutsGivenSet w r out at out′ at′
     ready-set-put e p g s c d x l =
         rw (not-entry g s c) (set-put g w s r kind (state-at s r) (c .state .regions r l) e (p g s c))
 

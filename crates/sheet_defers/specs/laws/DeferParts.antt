@@ -71,5 +71,6 @@ module _ {g : Graph} {w : List ℕ} (r : ℕ) {d : DeferredEdgeBundleSet} (set :
   bundle-shown {start} {i} {p} of-start below is =
       let few = set .few in
       let room = set .room in
-      let there : p ≡ word w set-starts r + i = is ∙ rw (lt-ltb start most-bundles (omega arith), lt-ltb i slot-size (omega arith), of-start) in
+      let there : p ≡ word w set-starts r + i = is
+      ∙ rw (lt-ltb start most-bundles (omega arith), lt-ltb i slot-size (omega arith), of-start) in
       rw there (set .each i (omega arith))

@@ -62,23 +62,27 @@ module _ {g : Graph} (w : List ℕ) {h : ℕ} where
       appends {ns = ⟨⟩} {ms = ks} (no-nodes (not-loop w x (omega arith) b))
       (rw (x .is 0 (omega arith)) (added-blocks (rw (x .is 2 (omega arith)) some) (rw (x .is 2 (omega arith)) e))) refl
   appended (two-lists {ns = ns} {ms = ms} x _ p _ q a b e) _ =
-      appends {ns = ns} {ms = ms} (rw (not-loop w x (omega arith) p) a) (rw (x .is 0 (omega arith)) (added-list (rw (earlier-is (x .is 2 (omega arith)) q) b))) e
+      appends {ns = ns} {ms = ms} (rw (not-loop w x (omega arith) p) a)
+      (rw (x .is 0 (omega arith)) (added-list (rw (earlier-is (x .is 2 (omega arith)) q) b))) e
   appended (then-exit {n = n} {op = op} {vs = vs} {ns = ns} x p a t e) _ =
       appends {ns = ns} {ms = exit n op vs ▸ ⟨⟩} (rw (not-loop w x (omega arith) p) a)
       (rw (x .is 0 (omega arith)) (added-exit {op = op} {vs = vs} (rw (x .is 3 (omega arith)) t) (rw (x .is 2 (omega arith))))) e
   appended (then-select {n = n} {kind = kind} {v = v} {cs = cs} {ns = ns} x p q a shape t c e) _ =
       appends {ns = ns} {ms = new-select n kind v cs ▸ ⟨⟩} (rw (not-loop w x (omega arith) p) a)
-      (rw (x .is 0 (omega arith)) (added-select {kind = kind} {v = v} {cs = cs} (rw (x .is 3 (omega arith)) shape) (rw (x .is 4 (omega arith)) t) (rw (earlier-is (x .is 5 (omega arith)) q) c)
+      (rw (x .is 0 (omega arith)) (added-select {kind = kind} {v = v} {cs = cs} (rw (x .is 3 (omega arith)) shape)
+      (rw (x .is 4 (omega arith)) t) (rw (earlier-is (x .is 5 (omega arith)) q) c)
       (rw (x .is 2 (omega arith))))) e
   appended {ks} (the-loop {v = v} {ns = ns} y x p q a t kept e) _ =
       appends {ns = ⟨⟩} {ms = ks} (no-nodes (none-before w h (x .is 0 (omega arith))))
-      (rw (x .is 0 (omega arith)) (added-loop {v = v} {ns = ns} y (rw (earlier-is (x .is 1 (omega arith)) p) a) (rw (x .is 4 (omega arith)) t)
+      (rw (x .is 0 (omega arith))
+      (added-loop {v = v} {ns = ns} y (rw (earlier-is (x .is 1 (omega arith)) p) a) (rw (x .is 4 (omega arith)) t)
       (rw (x .is 3 (omega arith), earlier-is (x .is 5 (omega arith)) q) kept) (rw (x .is 2 (omega arith), x .is 3 (omega arith)) e))) refl
 
   pub first-case : {cs : Cases} → ShowsCaseCells g (section w cells) h cs → 1 ≤ h → FirstCase g w h cs
   first-case (no-cases e) b = absurd (omega arith)
   first-case (case-and {ns = ns} {cs = cs} x p q a c e) b =
-      case-first {ns = ns} {cs = cs} (rw (earlier-is (x .is 3 (omega arith)) q) a) (rw (earlier-is (x .is 1 (omega arith)) p) c) (rw (x .is 2 (omega arith)) e)
+      case-first {ns = ns} {cs = cs} (rw (earlier-is (x .is 3 (omega arith)) q) a) (rw (earlier-is (x .is 1 (omega arith)) p) c)
+      (rw (x .is 2 (omega arith)) e)
 
 -- ---- Cases by place.
 pub earlier-within : (p h : ℕ) → earlier p h ≤ h

@@ -46,7 +46,8 @@ module _ {g : Graph} {w w′ : List ℕ} (made-stays : PreservesMade g w w′) w
       }
 
   -- Bundle j of the new set is bundle f j of the old one.
-  pub set-moves : {start n start′ n′ : ℕ} {d d′ : DeferredEdgeBundleSet} (f : ℕ → ℕ) → n′ ≡ length d′ → n′ ≤ slot-size → start′ + n′ ≤ most-bundles
+  pub set-moves : {start n start′ n′ : ℕ} {d d′ : DeferredEdgeBundleSet} (f : ℕ → ℕ) → n′ ≡ length d′ → n′ ≤ slot-size
+      → start′ + n′ ≤ most-bundles
       → ((j : ℕ) → j < n′ → f j < n) → ((i j : ℕ) → i < j → j < n′ → f i ≡ f j → ⊥)
       → ((j : ℕ) → j < n′ → Moves w w′ (start + f j) (start′ + j))
       → ((j : ℕ) → j < n′ → getD d′ j no-bundle ≡ getD d (f j) no-bundle)
@@ -291,7 +292,8 @@ pub record ShiftRemoved (g : Graph) (w w′ : List ℕ) (r i : ℕ) (d : Deferre
   pub beside : (p : ℕ) → (word w set-starts r ≤ p → p < word w set-starts r + slot-size → ⊥) → SameBundle w w′ p
   pub set : ShowsOwnSet g w′ r (take i d ++ drop (suc i) d)
 
-pub shift-removes : {g : Graph} {w : List ℕ} → used ≤ length w → {r : ℕ} → r < slot-count → {d : DeferredEdgeBundleSet} → ShowsOwnSet g w r d →
+pub shift-removes : {g : Graph} {w : List ℕ} → used ≤ length w → {r : ℕ} → r < slot-count → {d : DeferredEdgeBundleSet}
+    → ShowsOwnSet g w r d →
     (i : ℕ)
     → i < length d → ShiftRemoved g w (shift-removed w r i) r i d
 unfolding shift-removed

@@ -203,7 +203,8 @@ same-elsewhere-run w k d i xs p = record { words = λ j h. run-elsewhere-word w 
 
 -- A bundle stored whole, and the others.
 module _ (w : List ℕ) (p : ℕ) (xs : List ℕ) (seven : length xs ≡ bundle-row-size) where
-  pub bundle-stored : used ≤ length w → p < most-bundles → (i : ℕ) → i < bundle-row-size → word (stored-all w bundles (bundle-row-at p) xs) bundles
+  pub bundle-stored : used ≤ length w → p < most-bundles → (i : ℕ) → i < bundle-row-size → word
+      (stored-all w bundles (bundle-row-at p) xs) bundles
       (bundle-word-at p i) ≡ getD xs i 0
   bundle-stored room h i j = run-word w bundles (bundle-row-at p) xs (omega arith) (omega arith) i (omega arith)
 

@@ -140,16 +140,20 @@ other-row {j} one q d k h = one .rows (case-word-at q k) (λ a b. let e : q ≡ 
 module _ {g : Graph} {w w′ : List ℕ} {j : ℕ} (one : OneCase w w′ j) {r q : ℕ} (d : q ≡ j → ⊥) where
   pub case-stays : {c : MaybeClaimedRegion} → ShowsCase g w r q c → ShowsCase g w′ r q c
   case-stays (shows-ok {c} a b in-graph e f nodes start size inputs) =
-      shows-ok {c = c} (other-row one q d case-kind-field (omega arith) ∙ a) (other-row one q d case-origin-field (omega arith) ∙ b) in-graph
+      shows-ok {c = c} (other-row one q d case-kind-field (omega arith) ∙ a)
+      (other-row one q d case-origin-field (omega arith) ∙ b) in-graph
       (other-row one q d case-body-field (omega arith) ∙ e) f
       (rw (other-row one q d case-children-field (omega arith)) (only-preserves (one .only) g .nodes-stay nodes))
       (other-row one q d case-set-start-field (omega arith) ∙ start ∙ sym (one .starts (c .origin))) size
       (λ k h. rw (other-row one q d (6 + k) (omega arith)) (inputs k h))
-  case-stays (shows-nothing a b) = shows-nothing (other-row one q d case-kind-field (omega arith) ∙ a) (other-row one q d case-set-length-field (omega arith) ∙ b)
-  case-stays (shows-edge a b e) = shows-edge (other-row one q d case-kind-field (omega arith) ∙ a) (other-row one q d case-set-start-field (omega arith) ∙ b)
+  case-stays (shows-nothing a b) = shows-nothing (other-row one q d case-kind-field (omega arith) ∙ a)
+      (other-row one q d case-set-length-field (omega arith) ∙ b)
+  case-stays (shows-edge a b e) = shows-edge (other-row one q d case-kind-field (omega arith) ∙ a)
+      (other-row one q d case-set-start-field (omega arith) ∙ b)
       (other-row one q d case-set-length-field (omega arith) ∙ e)
   case-stays (shows-others a b) =
-      shows-others (other-row one q d case-kind-field (omega arith) ∙ a) (other-row one q d case-set-start-field (omega arith) ∙ b ∙ sym (one .starts r))
+      shows-others (other-row one q d case-kind-field (omega arith) ∙ a)
+      (other-row one q d case-set-start-field (omega arith) ∙ b ∙ sym (one .starts r))
 
   pub shown-stays : Slots (length (g .regions)) w → length (g .regions) ≤ 32 → r < length (g .regions) → {c : MaybeClaimedRegion}
       → CaseAndSet g w r q c → CaseAndSet g w′ r q c
@@ -186,8 +190,10 @@ module _ {g : Graph} (w : List ℕ) (room : used ≤ length w) {r j : ℕ} (belo
       let at : (k : ℕ) → k < 10 → case-word (stored-all w cases (case-row-at j) xs) j k ≡ getD xs k 0 =
       λ k h. row-word w room j below xs (omega arith) k (omega arith) in
       record {
-        case = shows-ok {c = c} (at case-kind-field (omega arith)) (at case-origin-field (omega arith)) (x .in-graph) (at case-body-field (omega arith) ∙ x .body) (x .body-below)
-            (rw (at case-children-field (omega arith)) (made-stays .nodes-stay (x .nodes))) (at case-set-start-field (omega arith) ∙ sym (one .starts o)) (x .size)
+        case = shows-ok {c = c} (at case-kind-field (omega arith)) (at case-origin-field (omega arith)) (x .in-graph)
+            (at case-body-field (omega arith) ∙ x .body) (x .body-below)
+            (rw (at case-children-field (omega arith)) (made-stays .nodes-stay (x .nodes)))
+            (at case-set-start-field (omega arith) ∙ sym (one .starts o)) (x .size)
             (λ k h. let e : 6 + k ≡ suc (suc (suc (suc (suc (suc k))))) = omega arith in rw (at (6 + k) (omega arith), e) (names k h));
         set = rw (at case-set-start-field (omega arith), at case-set-length-field (omega arith))
             (set-stays made-stays (λ i h. same-elsewhere-run w cases (omega arith) (case-row-at j) xs _) (x .set));
@@ -220,7 +226,8 @@ module _ {g : Graph} (w : List ℕ) (room : used ≤ length w) {r j : ℕ} (belo
       let at : (k : ℕ) → k < 6 → case-word (stored-all w cases (case-row-at j) xs) j k ≡ getD xs k 0 =
       λ k h. row-word w room j below xs (omega arith) k h in
       record {
-        case = shows-edge (at case-kind-field (omega arith)) (at case-set-start-field (omega arith) ∙ own) (at case-set-length-field (omega arith));
+        case = shows-edge (at case-kind-field (omega arith)) (at case-set-start-field (omega arith) ∙ own)
+            (at case-set-length-field (omega arith));
         set = rw (at case-set-start-field (omega arith) ∙ own, at case-set-length-field (omega arith))
             (set-stays (only-preserves (only-run w cases-of-sets (case-row-at j) xs) g)
             (λ i h. same-elsewhere-run w cases (omega arith) (case-row-at j) xs _) x);

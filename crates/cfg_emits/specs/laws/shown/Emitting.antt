@@ -86,7 +86,8 @@ emitting-condition changes g a b made-stays =
     }
 
 -- A word of bundle p.
-pub emitting-word : (g : Graph) (w : List ℕ) (p i x : ℕ) → i < bundle-row-size → Emitting g p (p + 1) w (stored w bundles (bundle-word-at p i) x)
+pub emitting-word : (g : Graph) (w : List ℕ) (p i x : ℕ) → i < bundle-row-size → Emitting g p (p + 1) w
+    (stored w bundles (bundle-word-at p i) x)
 emitting-word g w p i x h =
     let changes = word-changes bundles no-total w (omega arith) (bundle-word-at p i) x in
     record {

@@ -140,7 +140,8 @@ shared-shown {p} y e =
           (none-of to-make (p .inputs) (or-left (any to-make (p .inputs)) (is-some (p .condition)) e) k no-planned-input below));
     }
 
-pub shared-set : {g : Graph} {cs : List MaybeClaimedRegion} {w : List ℕ} {base : ℕ} {ps : List PlannedBundle} → base + slot-size ≤ most-bundles
+pub shared-set : {g : Graph} {cs : List MaybeClaimedRegion} {w : List ℕ} {base : ℕ} {ps : List PlannedBundle}
+    → base + slot-size ≤ most-bundles
     → ShowsPlan g cs w base ps → any-needs-select ps ≡ false → ShowsSet g w base (length ps) (map shared-bundle ps)
 shared-set {ps} room plan e =
     let same = length-map ps shared-bundle in

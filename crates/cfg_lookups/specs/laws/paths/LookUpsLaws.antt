@@ -66,7 +66,11 @@ module _ (l : List ℕ) (v r k : ℕ) (of-region : r ≡ input-region v) (kind :
   module _ (not-none : k ≡ entry-none → ⊥) where
     pub again-replaced : k ≡ entry-replace → true ≡ changes-again l v
     unfolding changes-again
-    again-replaced e = rw (ne-eqb (kind-at l v) entry-none (λ h. not-none (kind-read ∙ h)), eq-eqb (kind-at l v) entry-replace (sym kind-read ∙ e))
+    again-replaced e = rw (
+      ne-eqb (kind-at l v) entry-none (λ h. not-none (kind-read ∙ h)),
+      eq-eqb (kind-at l v) entry-replace
+          (sym kind-read ∙ e),
+    )
 
     pub again-renumbered : (k ≡ entry-replace → ⊥) → (i y : ℕ) → i ≡ input-index v → y ≡ rewrite-value l r i
         → not (eqb y v) ≡ changes-again l v

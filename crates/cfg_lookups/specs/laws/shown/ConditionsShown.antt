@@ -258,7 +258,8 @@ module _ {l l′ : List ℕ} {c : ℕ} where
   false-shown e h undef-cond (shows-undef f) s t = absurd (omega arith)
   false-shown e h (merge n k v ts) (shows-merge a u b d f ps) s t = absurd (omega arith)
 
-  undef-shown : (c ≡ condition-true → ⊥) → (c ≡ condition-false → ⊥) → c < merges-from → {x : ℕ} → x ≡ undef-word 1 → l′ ≡ l → RecordsCond l c l′ (Number x)
+  undef-shown : (c ≡ condition-true → ⊥) → (c ≡ condition-false → ⊥) → c < merges-from → {x : ℕ} → x ≡ undef-word 1 → l′ ≡ l
+      → RecordsCond l c l′ (Number x)
   unfolding materialize-lazy-cond
   undef-shown p q b x h true-cond (shows-true f) s t = absurd (p f)
   undef-shown p q b x h false-cond (shows-false f) s t = absurd (q f)

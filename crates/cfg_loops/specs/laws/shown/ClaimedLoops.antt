@@ -61,7 +61,8 @@ use Rattle.format.specs.Refusals.{too-many}
 use Rattle.state_words.specs.Rows.{bundle-input, cells-at, kind-claimed, largest, most-cells, region-kind, slot-size, return-word}
 
 -- ---- The back edge leaves region r's set: nothing of another region changes.
-pub removed-concerns : (g : Graph) (w : List ℕ) (r i p : ℕ) → Slots (length (g .regions)) w → HasSlot (length (g .regions)) r → i < slot-size
+pub removed-concerns : (g : Graph) (w : List ℕ) (r i p : ℕ) → Slots (length (g .regions)) w → HasSlot (length (g .regions)) r
+    → i < slot-size
     → p ≡ word w set-starts r + i → Concerns g r w (swap-removed w r p)
 unfolding swap-removed
 removed-concerns g w r i p slots a b e =

@@ -125,7 +125,8 @@ module _ (g : Graph) (r : ℕ) (not-return : is-in return-word (exit-targets g r
           go to-return is = to-return-so is
 
 -- ---- The whole set of loop r, bundle by bundle.
-module _ (g : Graph) (r : ℕ) (not-return : is-in return-word (exit-targets g r) ≡ false) (l₀ : List ℕ) (start n : ℕ) (d : DeferredEdgeBundleSet)
+module _ (g : Graph) (r : ℕ) (not-return : is-in return-word (exit-targets g r) ≡ false) (l₀ : List ℕ) (start n : ℕ)
+    (d : DeferredEdgeBundleSet)
     (fits : used ≤ length l₀) (slots : Slots (length (g .regions)) l₀) (below : HasSlot (length (g .regions)) r)
     (own : start ≡ word l₀ set-starts r) (shown : ShowsSet g l₀ start n d)
     (low : (i : ℕ) → i < n → getD d i no-bundle .accumulated-count < largest) where
@@ -197,7 +198,8 @@ pub record ExitsCounted (g : Graph) (r : ℕ) (l l′ : List ℕ) (d : DeferredE
   pub changes : ChangesOnly bundles cases-at l l′
   pub set : ShowsOwnSet g l′ r (map (add-exit-edge (exit-targets g r)) d)
 
-pub exits-shown : (g : Graph) (r : ℕ) (l : List ℕ) (d : DeferredEdgeBundleSet) → is-in return-word (exit-targets g r) ≡ false → used ≤ length l
+pub exits-shown : (g : Graph) (r : ℕ) (l : List ℕ) (d : DeferredEdgeBundleSet) → is-in return-word (exit-targets g r) ≡ false
+    → used ≤ length l
     → Slots (length (g .regions)) l → HasSlot (length (g .regions)) r → ShowsOwnSet g l r d
     → ((i : ℕ) → i < length d → getD d i no-bundle .accumulated-count < largest)
     → ExitsCounted g r l (exits-added g r l) d

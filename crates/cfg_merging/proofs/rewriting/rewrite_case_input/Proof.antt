@@ -13,7 +13,8 @@ set-case-input-requires : tie.Need-set-case-input-requires
 set-case-input-requires c κs = search needs
 
 returns : tie.Need-returns
-returns c = case-input-path _ _ _ _ _ _ _ (c .before .before .before .before .case-input .ensures) (c .before .before .look-up-noting .ensures)
+returns c = case-input-path _ _ _ _ _ _ _ (c .before .before .before .before .case-input .ensures)
+    (c .before .before .look-up-noting .ensures)
     (c .set-case-input .ensures)
 
 pub rewrite-case-input-spec : {M : Type 1} → statement M

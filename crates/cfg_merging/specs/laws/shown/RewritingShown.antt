@@ -171,7 +171,8 @@ module _ (g : Graph) (valid : Valid g) where
           shown = record {
             target = rw (row-stays .bundle-fields p bundle-target-field (omega arith)) (x .target);
             count = row-stays .bundle-fields p bundle-count-field (omega arith) ∙ x .count;
-            condition = rw (row-stays .bundle-fields p bundle-condition-field (omega arith)) (stays-preserves g row-stays .conditions-stay (x .condition));
+            condition = rw (row-stays .bundle-fields p bundle-condition-field (omega arith))
+                (stays-preserves g row-stays .conditions-stay (x .condition));
             size = same ∙ x .size;
             few = rw same few;
             inputs = λ k h. let e : 0 + k ≡ k = omega arith in rw e at (row-is .named k (rw same at h));
@@ -419,7 +420,11 @@ module _ (g : Graph) (valid : Valid g) where
       record {
         stays = stays-then st (set .stays);
         shown = inputs-stay (set .stays) r j (λ k h. ap (λ z. getD z (case-input-at j k) 0) (set .same-cases)) (given .shown);
-        set = rw (deferred-found s c, set .stays .case-fields j case-set-start-field (omega arith), set .stays .case-fields j case-set-length-field (omega arith))
+        set = rw (
+          deferred-found s c,
+          set .stays .case-fields j case-set-start-field (omega arith),
+          set .stays .case-fields j case-set-length-field (omega arith),
+        )
             (set-shown old-set set);
         before = λ q h. ap (λ z. getD z q 0) (set .same-cases) ∙ given .before q h;
         behind = λ q h. ap (λ z. getD z q 0) (set .same-cases) ∙ given .behind q h;
@@ -461,7 +466,8 @@ module _ (g : Graph) (valid : Valid g) where
       → {d : DeferredEdgeBundleSet} → ShowsSet g l (case-set-start l j) (case-set-length l j) d
       → ShowsSet g l′ (case-set-start l′ j) (case-set-length l′ j) d
   moved-set st j same x =
-      rw (st .case-fields j case-set-start-field (omega arith), st .case-fields j case-set-length-field (omega arith)) (set-stays (stays-preserves g st) same x)
+      rw (st .case-fields j case-set-start-field (omega arith), st .case-fields j case-set-length-field (omega arith))
+      (set-stays (stays-preserves g st) same x)
 
   cases-turned : (r : ℕ) (cs : List MaybeClaimedRegion) (s : NestState) → ((q : ℕ) → ChainsEnd (s .region-input-rewrites) q)
       → (l : List ℕ) → ShowsTables l s → NamedRewrites l → ShowsReturned g l → (j : ℕ) → j + length cs ≤ 8
@@ -559,7 +565,8 @@ from-zero : (k : ℕ) → 0 + k ≡ k
 from-zero k = omega arith
 
 -- Two slots that are not the same have no bundle in common.
-slots-apart : {n : ℕ} {w : List ℕ} → Slots n w → (a b : ℕ) → HasSlot n a → HasSlot n b → (a ≡ b → ⊥) → (i j : ℕ) → i < slot-size → j < slot-size
+slots-apart : {n : ℕ} {w : List ℕ} → Slots n w → (a b : ℕ) → HasSlot n a → HasSlot n b → (a ≡ b → ⊥) → (i j : ℕ) → i < slot-size
+    → j < slot-size
     → word w set-starts a + i ≡ word w set-starts b + j → ⊥
 slots-apart sl a b x y d i j h k e =
     let p = sl .starts a x in
@@ -651,7 +658,12 @@ module _ (g : Graph) (valid : Valid g) (w : List ℕ) (r : ℕ) (s : NestState) 
               st .case-fields i case-set-start-field (omega arith),
               st .case-fields j case-set-start-field (omega arith),
             ) (x .apart i j p q a (rw same at b));
-            not-spare = λ j p q a. rw (st .case-fields j case-set-length-field (omega arith), st .case-fields j case-set-start-field (omega arith), starts spare-slot)
+            not-spare = λ j p q a. rw (
+              st .case-fields j case-set-length-field (omega arith),
+              st .case-fields j case-set-start-field
+                  (omega arith),
+              starts spare-slot,
+            )
                 (x .not-spare j p q (rw same at a));
           };
           state = record {

@@ -175,7 +175,8 @@ module _ (g : Graph) (valid : Valid g) where
     pub spare : SpareOnly o l l′
     pub rows : ShowsRows g l′ o ts
 
-  module _ (o : ℕ) (below : o + slot-size ≤ own-edges-from) (l : List ℕ) (full : used ≤ length l) (at : word l set-starts spare-slot ≡ o) (p : ℕ)
+  module _ (o : ℕ) (below : o + slot-size ≤ own-edges-from) (l : List ℕ) (full : used ≤ length l) (at : word l set-starts spare-slot ≡ o)
+      (p : ℕ)
       {e : DeferredEdgeBundle} (x : ShowsBundle g l p e) (ts : List DeferredTargetSummary) (rows : ShowsRows g l o ts) where
     abbrev t : ℕ
     t = bundle-target l p
@@ -368,7 +369,8 @@ module _ (g : Graph) (valid : Valid g) where
       (sym (bundle-in start i (omega arith) (omega arith)))
       (record { spare = spare-then (one .spare) (ih .spare); rows = ih .rows })
 
-  set-summarized : (o : ℕ) → o + slot-size ≤ own-edges-from → (l : List ℕ) → used ≤ length l → word l set-starts spare-slot ≡ o → (start n : ℕ)
+  set-summarized : (o : ℕ) → o + slot-size ≤ own-edges-from → (l : List ℕ) → used ≤ length l → word l set-starts spare-slot ≡ o
+      → (start n : ℕ)
       {d : DeferredEdgeBundleSet} → ShowsSet g l start n d → ((k q : ℕ) → k < n → q < slot-size → start + k ≡ o + q → ⊥)
       → (ts : List DeferredTargetSummary) → ShowsRows g l o ts
       → ((x : DeferredTarget) → edges-of-rows x ts + edges-of-set x d ≤ largest)
@@ -401,7 +403,8 @@ module _ (g : Graph) (valid : Valid g) where
       let l₁ = summarize-case l j in
       let sp = one .spare in
       let same : (i : ℕ) → word l₁ cases i ≡ word l cases i = spare-there sp cases (omega arith) (omega arith) in
-      let ih = cases-summarized o below cs l₁ (rw (sp .words) full) (spare-there sp set-starts (omega arith) (omega arith) spare-slot ∙ at) (suc j)
+      let ih = cases-summarized o below cs l₁ (rw (sp .words) full) (spare-there sp set-starts (omega arith) (omega arith) spare-slot ∙ at)
+      (suc j)
       (λ k h. rw (next k, same (case-set-start-at (j + suc k)), same (case-set-length-at (j + suc k))) (set-stays (spare-preserves sp g)
       (λ i b. spare-outside sp (case-set-start l (j + suc k) + i) (λ q c. apart (suc k) i q (omega arith) b c))
       (sets (suc k) (omega arith))))

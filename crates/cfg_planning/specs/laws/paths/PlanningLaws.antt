@@ -114,7 +114,17 @@ module _ (l : List ℕ) (j v kind : ℕ) (of-kind : kind ≡ case-kind l j) wher
         pub parent-elsewhere : (r ≡ body → ⊥) → to-merge ≡ in-parent l j v
         unfolding in-parent
         parent-elsewhere d =
-            rw (← of-kind, eq-eqb kind case-claimed claimed, ← is-const, not-const, ← is-given, an-input, ← of-region, ← of-body, ne-eqb r body d)
+            rw (
+              ← of-kind,
+              eq-eqb kind case-claimed claimed,
+              ← is-const,
+              not-const,
+              ← is-given,
+              an-input,
+              ← of-region,
+              ← of-body,
+              ne-eqb r body d,
+            )
 
         pub parent-given : r ≡ body → {k a : ℕ} → k ≡ input-index v → a ≡ case-input l j k → a ≡ in-parent l j v
         unfolding in-parent

@@ -100,7 +100,8 @@ module _ (g : Graph) (l : List ℕ) (r j : ℕ) where
 -- ---- The bundle of a set to a target.
 -- Its place p, outside of the spare slot, which starts at bundle o.
 pub data ShowsPlace (g : Graph) (o : ℕ) (l : List ℕ) (p : ℕ) (x : DeferredTarget) (d : DeferredEdgeBundleSet) : Type 0 where
-  stands-at : {e : DeferredEdgeBundle} → (p ≡ no-bundle-word → ⊥) → ((q : ℕ) → q < slot-size → p ≡ o + q → ⊥) → ShowsBundle g l p e → e .target ≡ x
+  stands-at : {e : DeferredEdgeBundle} → (p ≡ no-bundle-word → ⊥) → ((q : ℕ) → q < slot-size → p ≡ o + q → ⊥) → ShowsBundle g l p e
+      → e .target ≡ x
       → get-edge-bundle-by-target x d ≡ some e → ShowsPlace g o l p x d
   stands-nowhere : p ≡ no-bundle-word → get-edge-bundle-by-target x d ≡ none → ShowsPlace g o l p x d
 

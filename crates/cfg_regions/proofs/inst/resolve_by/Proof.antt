@@ -25,7 +25,8 @@ returns c =
     let at-own-bundle = at-condition-in .before .before in
     let at-set-length = at-own-bundle .before .before in
     λ g st. resolve-path g _ _ _ st (at-set-length .set-length .ensures) (at-own-bundle .own-bundle .ensures)
-    (at-condition-in .condition-in .ensures) (at-fill-claimed-and-others .fill-claimed-and-others .ensures g) (c .structurize-select-into .ensures g)
+    (at-condition-in .condition-in .ensures) (at-fill-claimed-and-others .fill-claimed-and-others .ensures g)
+    (c .structurize-select-into .ensures g)
 
 pub resolve-by-spec : {M : Type 1} → statement M
 resolve-by-spec =

@@ -66,7 +66,8 @@ pub front-targets : (l : List ℕ) → SameKinds l (deferred-targets l)
 unfolding deferred-targets
 front-targets l =
     let m = stored l set-lengths spare-slot 0 in
-    kinds-then (kinds-stored l set-lengths (omega arith) spare-slot 0) (front-turned (λ m. m) summarize-case front-summaries (case-total m) m 0)
+    kinds-then (kinds-stored l set-lengths (omega arith) spare-slot 0)
+    (front-turned (λ m. m) summarize-case front-summaries (case-total m) m 0)
 
 pub front-plans : (g : Graph) (l : List ℕ) → SameKinds l (plan-bundles g l .words)
 unfolding plan-bundles

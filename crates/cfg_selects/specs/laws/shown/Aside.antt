@@ -65,7 +65,8 @@ module _ {g : Graph} (few : length (g .regions) ≤ 32) {r : ℕ} (here : r < le
         apart = λ i k p q a b c d e.
             let x = other-case i p c in
             let y = other-case k q d in
-            shown .apart i k p q a (omega arith) (rw (field i case-set-length-field x (omega arith)) at c) (rw (field k case-set-length-field y (omega arith)) at d)
+            shown .apart i k p q a (omega arith) (rw (field i case-set-length-field x (omega arith)) at c)
+            (rw (field k case-set-length-field y (omega arith)) at d)
             (rw (field i case-set-start-field x (omega arith), field k case-set-start-field y (omega arith)) at e);
         not-spare = λ k p q a b c e.
             let x = other-case k p b in

@@ -264,7 +264,8 @@ pub record Structured (g : Graph) (r : ℕ) (cs : List MaybeClaimedRegion) (w w�
   pub outside : (p : ℕ) → ((j i : ℕ) → j < length cs → i < case-set-length w j → p ≡ case-set-start w j + i → ⊥)
       → ((i : ℕ) → i < slot-size → p ≡ word w set-starts spare-slot + i → ⊥) → SameBundle w w′ p
   -- The row of a case that is not claimed and defers nothing, but for its region.
-  pub rows : (j : ℕ) → (case-kind w j ≡ case-claimed → ⊥) → case-set-length w j ≡ 0 → (q : ℕ) → q < case-row-size → (q ≡ case-body-field → ⊥)
+  pub rows : (j : ℕ) → (case-kind w j ≡ case-claimed → ⊥) → case-set-length w j ≡ 0 → (q : ℕ) → q < case-row-size
+      → (q ≡ case-body-field → ⊥)
       → case-word w′ j q ≡ case-word w j q
   pub total : word w′ head cells-at ≤ word w head cells-at + (length cs + 1)
 

@@ -43,7 +43,11 @@ loop-less : tie.Need-loop-less Inv-loop μ-loop
 loop-less c = omega arith
 
 loop-again : tie.Need-loop-again Inv-loop μ-loop
-loop-again c = (omega arith, row-next _ _ _ _ _ (c .before .loop .inv .1) (omega (arith, c .before .before .before .tells-length-arg2 .given)) refl)
+loop-again c = (
+  omega arith,
+  row-next _ _ _ _ _ (c .before .loop .inv .1)
+      (omega (arith, c .before .before .before .tells-length-arg2 .given)) refl,
+)
 
 returns : tie.Need-returns Inv-loop μ-loop
 returns c = row-end _ _ _ _ _ _ (c .before .loop .inv .0) (c .loop-test .left) (c .before .loop .inv .1)
