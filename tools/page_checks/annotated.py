@@ -94,7 +94,7 @@ def store_part(path: Path) -> str:
     rows = list(record_rows(read(found), used))
     if len(found) != WORDS or [word for numbers, _ in rows for word in numbers] != found[:used]:
         raise ValueError(f"{path.name}: the rows are not the words of the store, or it has more than one block")
-    lines = ["    byte in hexadecimal           word and number    what it says\n", row(0, store[:2], None, [0], "number of the block")]
+    lines = [f"    byte {'bytes':<23} word  {'numbers':<11}  what they say\n", row(0, store[:2], None, [0], "number of the block")]
     word = 0
     for numbers, said in rows:
         at = 2 + 2 * word
@@ -139,8 +139,8 @@ def sheet_part(path: Path) -> str:
     parts += [(fields(line), line_text(*line)) for line in all_lines(result)]
     if [word for cut, _ in parts for field in cut for word in field] != every:
         raise ValueError(f"{path.name}: the fields are not the words of the sheet")
-    lines, at = [f"    word {'and those behind it, field by field':<56}  the line as it is printed\n"], 0
+    lines, at = [f"    word  {'words, field by field':<56}  the line as it is printed\n"], 0
     for cut, printed in parts:
-        lines.append(f"    {at:>4} {' | '.join(' '.join(map(str, field)) for field in cut):<56}  {printed}\n")
+        lines.append(f"    {at:>4}  {' | '.join(' '.join(map(str, field)) for field in cut):<56}  {printed}\n")
         at += sum(map(len, cut))
-    return "\n" + "".join(lines) + f"    {at:>4} is the first word behind the sheet\n\n"
+    return "\n" + "".join(lines) + f"    {at:>4}  the first word behind the sheet\n\n"
