@@ -25,11 +25,12 @@ LEFT_OUT = re.compile(
 
 CLAIMS: dict[str, tuple[str, ...]] = {
     FORMAT: (
-        "A store is {store.least-blocks} to {store.most-blocks} blocks of {store.block-bytes} bytes: at most {store.most-bytes} bytes.",
+        "A store has at least {store.least-blocks} block and at most {store.most-blocks}.",
+        "Each has {store.block-bytes} bytes, so a store has at most {store.most-bytes}.",
         "| {store.number-at} to {store.number-to} | the number of the block,",
         "| {store.payload-at} to {store.payload-to} | {store.block-words} words of {store.bits} bits |",
         "| {store.check-at} to {store.check-to} | the check, one number of {store.check-bits} bits |",
-        "The check is a sum over bytes {store.number-at} to {store.checked-to}: each byte times its place plus {store.place-more}.",
+        "each byte from {store.number-at} to {store.checked-to} is multiplied by its place plus {store.place-more}",
         "check = sum(block[place] * (place + {store.place-more}) for place in range({store.checked}))",
         "Word {record.w} is W: how many words the record has, word {record.w} included.",
         "Word j stands in block j / {store.block-words}, rounded down.",
@@ -103,11 +104,11 @@ CLAIMS: dict[str, tuple[str, ...]] = {
         "| {refusal.wrong-block-number} | the number of a block | the block |",
         "| {refusal.wrong-check} | the check of a block | the block |",
         "| {refusal.wrong-word-count} | W, the number of blocks, a word behind W, or where the record ends | {refusal.no-word} |",
-        "| {refusal.out-of-range} | a count, type, kind or limit is below its least or above its most"
+        "| {refusal.out-of-range} | a word that counts, or a type, a kind or a limit, is below its least or above its most"
         " | the region; also {refusal.no-word} in front of the regions |",
         "| {refusal.wrong-reference} | something is named that may not be | the region; {refusal.no-word} for the entry |",
         "| {refusal.wrong-type} | a type, or how many values there are | the region; of two that return the later |",
-        "| {refusal.exit-named-twice} | an exit list names a region twice | the region |",
+        "| {refusal.exit-named-twice} | a region stands twice on one exit list | the region |",
         "| {refusal.too-many} | nesting would define too much | {refusal.no-word} |",
         "| {refusal.too-few-words} | the sheet has more words than were lent; the program `nest` lends {sheet.usual-lent}"
         " | {refusal.no-word} |",
