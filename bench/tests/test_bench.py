@@ -1,33 +1,22 @@
 """What bench/ does without rt, the Rust or a board: packing, summing up, putting into a page, counting lines, drawing."""
 
 import contextlib
-import importlib.machinery
-import importlib.util
 import io
 import pathlib
 import subprocess
 import sys
 import tempfile
-import types
 import unittest
 
 import packed
 import page
 import summary
 
+from tools.tests.loading import script
+
 FOLDER = pathlib.Path(__file__).resolve().parents[1]
 COMMANDS = "accept", "board/run", "lines", "measured/build", "nesting", "plot", "run", "sizes", "times"
 MODULES = "packed.py", "page.py", "board/pack.py", "board/summary.py"
-
-
-def script(name: str) -> types.ModuleType:
-    """A script without a suffix, as a module."""
-    loader = importlib.machinery.SourceFileLoader(name, str(FOLDER / name))
-    spec = importlib.util.spec_from_loader(name, loader)
-    assert spec is not None
-    module = importlib.util.module_from_spec(spec)
-    loader.exec_module(module)
-    return module
 
 
 class Packed(unittest.TestCase):
@@ -100,7 +89,7 @@ class Plot(unittest.TestCase):
 
     def test_axis(self) -> None:
         """The least number is at the start, the most at the end; a power of ten lies between by its logarithm."""
-        plot = script("plot")
+        plot = script(FOLDER / "plot")
         axis = plot.Axis(0, 100, 1, 100)
         self.assertEqual([axis.at(value) for value in (1, 10, 100)], [0, 50, 100])
         self.assertEqual(axis.marks(), [1, 10, 100])
@@ -109,7 +98,7 @@ class Plot(unittest.TestCase):
 
     def test_picture(self) -> None:
         """Plots stand side by side in one picture."""
-        plot = script("plot")
+        plot = script(FOLDER / "plot")
         one = plot.Plot("Title", "across", "up", (1, 10), (1, 10))
         one.dots([(1, 1), (10, 10)], plot.OURS)
         told = plot.picture([one, one])

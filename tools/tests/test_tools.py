@@ -2,28 +2,17 @@
 
 import ast
 import contextlib
-import importlib.machinery
-import importlib.util
 import io
 import os
 import pathlib
 import subprocess
 import tempfile
-import types
 import unittest
+
+from tools.tests.loading import script
 
 FOLDER = pathlib.Path(__file__).resolve().parents[1]
 COMMANDS = "beside", "compute", "edit", "lint", "pages", "situations", "status", "test"
-
-
-def script(name: str) -> types.ModuleType:
-    """A script without a suffix, as a module."""
-    loader = importlib.machinery.SourceFileLoader(name, str(FOLDER / name))
-    spec = importlib.util.spec_from_loader(name, loader)
-    assert spec is not None
-    module = importlib.util.module_from_spec(spec)
-    loader.exec_module(module)
-    return module
 
 
 class Edit(unittest.TestCase):
@@ -31,7 +20,7 @@ class Edit(unittest.TestCase):
 
     def test_reached(self) -> None:
         """A crate, and all that it stands on; libraries of the toolchain are none of these."""
-        edit = script("edit")
+        edit = script(FOLDER / "edit")
         listed = edit.dependencies("# a: comment\na:\nb: a io\nc: b # more\nd: a\n")
         self.assertEqual(listed, {"a": [], "b": ["a", "io"], "c": ["b"], "d": ["a"]})
         self.assertEqual(edit.reached("c", listed), ["c", "b", "a"])
@@ -47,7 +36,7 @@ class Lint(unittest.TestCase):
 
     def test_language(self) -> None:
         """A script is told by its suffix, or by its first line."""
-        lint = script("lint")
+        lint = script(FOLDER / "lint")
         with tempfile.TemporaryDirectory() as made:
             folder = pathlib.Path(made)
             texts = {
@@ -65,7 +54,7 @@ class Lint(unittest.TestCase):
 
     def test_scripts(self) -> None:
         """Scripts without a suffix are among those that are checked."""
-        lint = script("lint")
+        lint = script(FOLDER / "lint")
         self.assertIn("tools/lint", lint.scripts(FOLDER.parent, "python"))
         self.assertIn("bench/run", lint.scripts(FOLDER.parent, "shell"))
 
@@ -97,7 +86,7 @@ class Types(unittest.TestCase):
 
     def test_all_scripts(self) -> None:
         """All scripts have them."""
-        for name in script("lint").scripts(FOLDER.parent, "python"):
+        for name in script(FOLDER / "lint").scripts(FOLDER.parent, "python"):
             self.assertEqual(untyped((FOLDER.parent / name).read_text(encoding="utf-8")), [], name)
 
 
@@ -109,7 +98,7 @@ class Compute(unittest.TestCase):
         with tempfile.NamedTemporaryFile("w", suffix=".vectors") as file:
             file.write(text)
             file.flush()
-            return list(script("compute").vectors(file.name))
+            return list(script(FOLDER / "compute").vectors(file.name))
 
     def test_vectors(self) -> None:
         """Stores with their answers; those that are wrong on purpose are passed over."""
@@ -124,7 +113,7 @@ class Compute(unittest.TestCase):
 
     def test_equations(self) -> None:
         """A sheet's equation has the bytes and the text; without `twice` it is compared without it."""
-        compute = script("compute")
+        compute = script(FOLDER / "compute")
         self.assertIn('printed (hex "00") ≡ (ascii "refused 1 0\\n")', compute.sheet_equation("v0", "00", ["refused 1 0"]))
         self.assertIn("without-twice", compute.sheet_equation("v0", "00", ["whole figure 0 attempts 1"]))
         runs = compute.runs_equation("v0", "00", ["given 1,2 - 3 4 5 6", "graph none", "nested none"])

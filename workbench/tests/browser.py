@@ -3,6 +3,8 @@
 import base64
 import os
 import re
+import tempfile
+import unittest
 
 CHROMIUM, DRIVER = "/usr/bin/chromium", "/usr/bin/chromedriver"
 
@@ -61,3 +63,14 @@ class Browser:
 
     def close(self):
         self.driver.quit()
+
+
+class InBrowser(unittest.TestCase):
+    """Tests that share a browser and a folder for its pages."""
+
+    @classmethod
+    def setUpClass(cls) -> None:
+        cls.folder = tempfile.TemporaryDirectory()
+        cls.addClassCleanup(cls.folder.cleanup)
+        cls.browser = Browser()
+        cls.addClassCleanup(cls.browser.close)

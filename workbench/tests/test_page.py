@@ -92,14 +92,7 @@ def store_of_32() -> bytes:
 
 @needs_nest
 @needs_browser
-class Page(unittest.TestCase):
-    @classmethod
-    def setUpClass(cls):
-        cls.folder = tempfile.TemporaryDirectory()
-        cls.addClassCleanup(cls.folder.cleanup)
-        cls.browser = browser.Browser()
-        cls.addClassCleanup(cls.browser.close)
-
+class Page(browser.InBrowser):
     def open(self, texts: dict[str, str], **options: object) -> None:
         path = os.path.join(self.folder.name, "page.html")
         put(path, routine_page("page", texts, options).encode())

@@ -25,14 +25,7 @@ def catalogue_texts(name):
 
 @needs_show
 @needs_browser
-class Page(unittest.TestCase):
-    @classmethod
-    def setUpClass(cls):
-        cls.folder = tempfile.TemporaryDirectory()
-        cls.addClassCleanup(cls.folder.cleanup)
-        cls.browser = browser.Browser()
-        cls.addClassCleanup(cls.browser.close)
-
+class Page(browser.InBrowser):
     def open(self, name, texts=None, dark=False):
         path = os.path.join(self.folder.name, name + ".html")
         with open(path, "w", encoding="utf-8") as file:
