@@ -75,8 +75,7 @@ enum rukvetta_refusal {
     RUKVETTA_EXIT_TWICE = 8,    /* an exit list names a region twice; the region */
     RUKVETTA_LIMIT = 9,         /* nesting would define more than the limits above; 0 */
     RUKVETTA_LENT = 10,         /* the sheet has more words than were lent; 0 */
-    RUKVETTA_FIGURE = 11,       /* the figure exceeds 4,294,967,295; 0 */
-    RUKVETTA_CLAIMED = 12       /* document 01 has it; it is proved never to come */
+    RUKVETTA_FIGURE = 11        /* the figure exceeds 4,294,967,295; 0 */
 };
 
 /* The record: word 0 is W, the number of its words, itself included. Terminators and kinds of values are words. */

@@ -1,4 +1,4 @@
-"""Nesting: Structurizer of cfg.rs on a record, with the mark of document 01 (9 and 12).
+"""Nesting: Structurizer of cfg.rs on a record, with the mark of document 01 (9).
 
 A set of deferred edges is a list of Edge: none is Unreachable, one is Always (its condition
 is T), more are a Choice. A condition is T, F, U or a Merge of a select's cases.
@@ -197,13 +197,11 @@ class Nesting:
         if self.states[target] == NEW:
             self.structurize(target)
         state = self.states[target]
-        if state == CLAIMED:
-            raise Refused(12, target)
+        assert state != CLAIMED, f"region {target} is claimed twice"
         back = self.back[target] if state == READY else 0
         if self.counts[target] != count + back:
             return None
-        if state == BEGUN:
-            raise Refused(12, target)
+        assert state != BEGUN, f"region {target} is claimed while it is in progress"
 
         self.states[target] = CLAIMED
         edges = self.sets[target]

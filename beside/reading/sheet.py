@@ -25,7 +25,7 @@ class Result:
 
 
 def nest(nesting: Nesting) -> Result:
-    """The result of a nesting not yet begun. Refusals 9, 11, 12."""
+    """The result of a nesting not yet begun. Refusals 9 and 11."""
     entry = nesting.record.entry
     if nesting.counts[entry] != 1:
         return Result(UNTOUCHED, nesting)

@@ -32,7 +32,6 @@ NAMED: tuple[tuple[str, str, str, dict[str, str]], ...] = (
             "too-many": "LIMIT",
             "too-few-words": "LENT",
             "figure-too-large": "FIGURE",
-            "already-claimed": "CLAIMED",
         },
     ),
     (

@@ -113,7 +113,6 @@ CLAIMS: dict[str, tuple[str, ...]] = {
         "| {refusal.too-few-words} | the sheet has more words than were lent; the program `nest` lends {sheet.usual-lent}"
         " | {refusal.no-word} |",
         "| {refusal.figure-too-large} | the figure is above {sheet.most-figure} | {refusal.no-word} |",
-        "| {refusal.already-claimed} | it is proved never to come |",
     ),
     PLAYER: (
         "A word has {run.bits} bits. True is {run.true} and false is {run.false}.",

@@ -19,7 +19,6 @@ RULES = {
     9: "regions would pass 128, nodes 512, node outputs 512, or lazy condition records 512",
     10: "the lent words are too few",
     11: "the figure exceeds 4,294,967,295",
-    12: "a target is already claimed, or is in progress with an equal count",
 }
 
 

@@ -168,7 +168,7 @@ class Manual(unittest.TestCase):
             self.assertRegex(names, rf"\b{name}\b")
         page = read(MAN, "rukvetta.h.3")
         refusals = re.findall(r"(RUKVETTA_\w+) = \d", re.findall(r"enum rukvetta_refusal \{(.*?)\}", header, re.S)[0])
-        self.assertEqual(len(refusals), 12)
+        self.assertEqual(len(refusals), 11)
         for name in re.findall(r"enum (rukvetta_\w+)", header) + refusals:
             self.assertIn(name, page)
 

@@ -13,9 +13,9 @@ use Rattle.state_words.specs.declared.defined.Made.the-variants.{Done, Full}
 use Rattle.cfg_loops.specs.Loops.{StructurizesLoop}
 use Rattle.cfg_regions.specs.declared.claim.Claim.{Claim}
 use Rattle.cfg_regions.specs.declared.claim.Claim.the-variants.{Claimed, Unclaimed, Refused}
-use Rattle.state_words.specs.Rows.{kind-claimed, kind-in-progress, kind-ready, no-bundle-word, region-kind, level-unreachable}
+use Rattle.state_words.specs.Rows.{kind-claimed, kind-ready, no-bundle-word, region-kind, level-unreachable}
 use Rattle.state_words.specs.Rows.{level-deferred}
-use Rattle.store.specs.declared.refusals.Refusal.the-variants.{TooMany, AlreadyClaimed}
+use Rattle.store.specs.declared.refusals.Refusal.the-variants.{TooMany}
 
 abbrev pub claim-of : Made → Claim
 claim-of Done = Claimed
@@ -40,10 +40,7 @@ pub data ClaimsByState (g : Graph) (w : List ℕ) (r n incoming : ℕ) (w′ : L
       → ClaimsByState g w r n incoming w′ a
   ready-waits : region-kind w r ≡ kind-ready → (incoming ≡ n + word w backedges r → ⊥) → w′ ≡ w
       → ClaimsByState g w r n incoming w′ Unclaimed
-  busy-claimed : region-kind w r ≡ kind-in-progress → incoming ≡ n → w′ ≡ w → ClaimsByState g w r n incoming w′ (Refused (AlreadyClaimed r))
-  busy-waits : region-kind w r ≡ kind-in-progress → (incoming ≡ n → ⊥) → w′ ≡ w → ClaimsByState g w r n incoming w′ Unclaimed
-  other-state : (region-kind w r ≡ kind-ready → ⊥) → (region-kind w r ≡ kind-in-progress → ⊥) → w′ ≡ w
-      → ClaimsByState g w r n incoming w′ (Refused (AlreadyClaimed r))
+  not-ready : (region-kind w r ≡ kind-ready → ⊥) → w′ ≡ w → ClaimsByState g w r n incoming w′ Unclaimed
 
 unfoldable pub is-trivial : List ℕ → ℕ → Bool
 is-trivial w t = pick (eqb (region-kind w t) kind-ready) (pick (eqb (word w set-lengths t) 0) (eqb (word w children t) 0) false) false

@@ -6,7 +6,6 @@ ghost use Rattle.state_regions.specs.RegionTables.{«target-answer-stored»};
 ghost use Rattle.cfg_regions.specs.ByState as words;
 use cfg_loops::loops::structurize_loop;
 use state_regions::regions::CLAIMED;
-use state_regions::regions::IN_PROGRESS;
 use state_regions::regions::READY;
 use state_regions::regions::TARGET_DEFERRED;
 use state_regions::regions::TARGET_UNREACHABLE;
@@ -65,7 +64,7 @@ fn claim_body(w: &mut [u16; WORDS], r: u16) -> Claim
     claim_from_made(structurize_loop(w, r, p))
 }
 
-// Target, accumulated count, its incoming count: refusal 12 where the Rust stops.
+// Target, accumulated count, its incoming count. Where the Rust would stop nothing is tested: it is never met (`refused-nine`).
 pub fn claim_by_state(
     w: &mut [u16; WORDS],
     r: u16,
@@ -77,18 +76,13 @@ pub fn claim_by_state(
 {
     let state = region_state(w, r);
     if state == READY {
-        if incoming.same(n.plus(backedge_count(w, r))) {
+        let all = n.plus(backedge_count(w, r));
+        if incoming.same(all) {
             return claim_body(w, r);
         }
         return Claim::Unclaimed;
     }
-    if state == IN_PROGRESS {
-        if incoming.same(n) {
-            return Claim::Refused(Refusal::AlreadyClaimed(r));
-        }
-        return Claim::Unclaimed;
-    }
-    Claim::Refused(Refusal::AlreadyClaimed(r))
+    Claim::Unclaimed
 }
 
 // Whether a region is Ready, Unreachable and childless: a failed claim of it defers nothing.

@@ -91,7 +91,8 @@ abbrev pub Sound : Type 0
 Sound = (store : List ℕ) (lent : ℕ) (s : Sheet) → answer store lent ≡ accepted s → SoundSheet store s
 
 -- 5. REFUSED. Each refusal has a number from 1 to 11 and its word: of the store or the record (1 to 8) a block, a region or 0; of
--- nesting's limits (9), the lent words (10) and the figure (11) it is 0. So neither 0 nor 12, where the Rust stops, is ever met.
+-- nesting's limits (9), the lent words (10) and the figure (11) it is 0. The number 0, which stands for what cannot be met (fuel used
+-- up, a region claimed twice, one in progress with all its edges), is none of them.
 pub data Refusal : ℕ → ℕ → Type 0 where
   by-store : {n w : ℕ} → Within wrong-length exit-named-twice n → w < 32 → Refusal n w
   by-limit : Refusal too-many 0

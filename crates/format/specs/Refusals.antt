@@ -1,4 +1,4 @@
--- The numbers of the refusals (document 01, "What turns a record away"). 1 to 8 belong to store and record, 9 to 12 to what comes after.
+-- The numbers of the refusals (document 01, "What turns a record away"). 1 to 8 belong to store and record, 9 to 11 to what comes after.
 use Prim.Native.Nat.{ℕ}
 
 abbrev pub wrong-length : ℕ
@@ -33,9 +33,6 @@ too-few-words = 10
 
 abbrev pub figure-too-large : ℕ
 figure-too-large = 11
-
-abbrev pub already-claimed : ℕ
-already-claimed = 12
 
 -- No number of document 01: what a proof shows never to come.
 abbrev pub never : ℕ

@@ -13,7 +13,7 @@ use Rattle.meaning.specs.Runs.{Nodes, ⟨⟩, _▸_, block, select, Cases, ∅,
 use Rattle.meaning.specs.Runs.{Node}
 use Rattle.format.specs.References.{return-types}
 use Rattle.format.specs.Store.{Answer, accepted, refused}
-use Rattle.format.specs.Refusals.{too-many, already-claimed, never}
+use Rattle.format.specs.Refusals.{too-many, never}
 
 -- ---- Deferred edges: what a region could not claim, each with the condition under which it is taken.
 -- A number of edges. It counts edges only and is never an index.
@@ -726,11 +726,12 @@ module _ (g : Graph) where
   claim-body r inputs children d none = give (some (claimed-as r r inputs children d))
   claim-body r inputs children d (some e) = structurize-loop g r children e (condition-in d e) (split-out-target (to-region r) d) inputs
 
-  -- target, accumulated count, inputs, its incoming count, its state. 0, not begun, and 12, the Rust stops, are never met (`refused-nine`).
+  -- target, accumulated count, inputs, its incoming count, its state. Not begun never comes; where it refuses otherwise the Rust stops, and
+  -- that is never met (`refused-nine`).
   abbrev pub claim-by-state : ℕ → IncomingEdgeCount → List Value → IncomingEdgeCount → StructurizeRegionState → Step (Option ClaimedRegion)
   claim-by-state r n inputs incoming not-begun = turn-away never r
-  claim-by-state r n inputs incoming claimed = turn-away already-claimed r
-  claim-by-state r n inputs incoming in-progress = elim (eqb incoming n) [ false ↦ give none | true ↦ turn-away already-claimed r ]
+  claim-by-state r n inputs incoming claimed = turn-away never r
+  claim-by-state r n inputs incoming in-progress = elim (eqb incoming n) [ false ↦ give none | true ↦ turn-away never r ]
   claim-by-state r n inputs incoming (ready b children d) =
       elim (eqb incoming (n + b)) [ false ↦ give none | true ↦ set-state r claimed >> claim-body r inputs children d (backedge-of r b d) ]
 

@@ -3,11 +3,11 @@ use Prim.Native.Nat.{ℕ}
 use Rattle.format.specs.Store.{Answer, refused}
 use Rattle.format.specs.Refusals.{wrong-length, wrong-block-number, wrong-check, wrong-word-count, out-of-range, wrong-reference}
 use Rattle.format.specs.Refusals.{wrong-type}
-use Rattle.format.specs.Refusals.{exit-named-twice, too-many, too-few-words, figure-too-large, already-claimed, never}
+use Rattle.format.specs.Refusals.{exit-named-twice, too-many, too-few-words, figure-too-large, never}
 use Rattle.store.specs.declared.refusals.Refusal.{Refusal}
 use Rattle.store.specs.declared.refusals.Refusal.the-variants.{WrongLength, WrongBlockNumber, WrongCheck, WrongWordCount, OutOfRange}
 use Rattle.store.specs.declared.refusals.Refusal.the-variants.{WrongReference, WrongType, ExitNamedTwice, TooMany, TooFewWords}
-use Rattle.store.specs.declared.refusals.Refusal.the-variants.{FigureTooLarge, AlreadyClaimed, Never}
+use Rattle.store.specs.declared.refusals.Refusal.the-variants.{FigureTooLarge, Never}
 
 abbrev pub refusal-number : Refusal → ℕ
 refusal-number WrongLength = wrong-length
@@ -21,7 +21,6 @@ refusal-number (ExitNamedTwice region) = exit-named-twice
 refusal-number TooMany = too-many
 refusal-number TooFewWords = too-few-words
 refusal-number FigureTooLarge = figure-too-large
-refusal-number (AlreadyClaimed target) = already-claimed
 refusal-number (Never region) = never
 
 abbrev pub refusal-word : Refusal → ℕ
@@ -36,7 +35,6 @@ refusal-word (ExitNamedTwice region) = region
 refusal-word TooMany = 0
 refusal-word TooFewWords = 0
 refusal-word FigureTooLarge = 0
-refusal-word (AlreadyClaimed target) = target
 refusal-word (Never region) = region
 
 -- The answer that is this refusal.

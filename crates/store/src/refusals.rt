@@ -24,12 +24,10 @@ pub const TOO_FEW_WORDS: u16 = 10;
 
 pub const FIGURE_TOO_LARGE: u16 = 11;
 
-pub const ALREADY_CLAIMED: u16 = 12;
-
 // No number of document 01: what a proof shows never to come.
 pub const NEVER: u16 = 0;
 
-// 2 and 3 have the block, 5 to 8 the region, 12 the target.
+// 2 and 3 have the block, 5 to 8 the region.
 pub enum Refusal {
     WrongLength,
     WrongBlockNumber(u16),
@@ -42,7 +40,6 @@ pub enum Refusal {
     TooMany,
     TooFewWords,
     FigureTooLarge,
-    AlreadyClaimed(u16),
     Never(u16),
 }
 
@@ -61,7 +58,6 @@ pub fn number(why: Refusal) -> u16
         Refusal::TooMany => TOO_MANY,
         Refusal::TooFewWords => TOO_FEW_WORDS,
         Refusal::FigureTooLarge => FIGURE_TOO_LARGE,
-        Refusal::AlreadyClaimed(_) => ALREADY_CLAIMED,
         Refusal::Never(_) => NEVER,
     }
 }
@@ -81,7 +77,6 @@ pub fn word(why: Refusal) -> u16
         Refusal::TooMany => 0,
         Refusal::TooFewWords => 0,
         Refusal::FigureTooLarge => 0,
-        Refusal::AlreadyClaimed(target) => target,
         Refusal::Never(region) => region,
     }
 }

@@ -27,8 +27,6 @@ pub enum Refusal {
     Lent,
     /// 11: the figure exceeds 4,294,967,295.
     Figure,
-    /// 12: document 01, the scope paper of the routine nester, has it; it is proved never to come.
-    Claimed(u16),
 }
 
 impl Refusal {
@@ -46,14 +44,13 @@ impl Refusal {
             Refusal::Limit => 9,
             Refusal::Lent => 10,
             Refusal::Figure => 11,
-            Refusal::Claimed(_) => 12,
         }
     }
 
     /// The word beside the number: the block, the region, or 0.
     pub const fn word(self) -> u16 {
         match self {
-            Refusal::BlockNumber(word) | Refusal::Check(word) | Refusal::Claimed(word) => word,
+            Refusal::BlockNumber(word) | Refusal::Check(word) => word,
             Refusal::Range(word) | Refusal::Reference(word) | Refusal::Type(word) | Refusal::ExitTwice(word) => word,
             _ => 0,
         }
@@ -73,7 +70,6 @@ impl Refusal {
             9 => Refusal::Limit,
             10 => Refusal::Lent,
             11 => Refusal::Figure,
-            12 => Refusal::Claimed(place),
             _ => panic!("librukvetta.a is not the library of this crate: it answered refusal {number}"),
         }
     }
@@ -94,7 +90,6 @@ impl fmt::Display for Refusal {
             Refusal::Limit => write!(to, "nesting would define too many regions, outputs or conditions"),
             Refusal::Lent => write!(to, "the sheet has more words than were lent"),
             Refusal::Figure => write!(to, "the figure exceeds 4,294,967,295"),
-            Refusal::Claimed(region) => write!(to, "region {region} is already claimed"),
         }
     }
 }

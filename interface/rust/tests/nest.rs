@@ -13,7 +13,7 @@ fn all() -> impl Iterator<Item = Vector> {
 #[test]
 fn every_store_has_its_listed_sheet_or_refusal() {
     let mut state = State::new();
-    let mut numbers = [0; 13];
+    let mut numbers = [0; 12];
     for vector in all() {
         let mut lent = vec![MARK; USUAL_LENT];
         match (nest(&vector.store, &mut state, &mut lent), refusal(&vector.answer)) {
@@ -32,8 +32,7 @@ fn every_store_has_its_listed_sheet_or_refusal() {
             (found, listed) => panic!("{:?} for {listed:?}", found.map(|sheet| sheet.to_string())),
         }
     }
-    assert!(numbers[..12].iter().all(|&times| times > 0), "not every number from 0 to 11: {numbers:?}");
-    assert_eq!(numbers[12], 0);
+    assert!(numbers.iter().all(|&times| times > 0), "not every number from 0 to 11: {numbers:?}");
 }
 
 #[test]

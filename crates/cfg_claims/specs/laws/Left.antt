@@ -24,8 +24,7 @@ use Rattle.cfg_regions.specs.declared.claim.Claim.{Claim}
 use Rattle.store.specs.declared.Verdict.{Verdict}
 use Rattle.cfg_claims.specs.SplitOut.{SplitOut}
 use Rattle.cfg_regions.specs.ByState.{ClaimsBody, no-backedges, none-found, by-loop, ClaimsByState, ready-claimed, ready-waits}
-use Rattle.cfg_regions.specs.ByState.{busy-claimed}
-use Rattle.cfg_regions.specs.ByState.{busy-waits, other-state, as-claimed}
+use Rattle.cfg_regions.specs.ByState.{not-ready, as-claimed}
 use Rattle.cfg_regions.specs.ByInst.{AddsExit, exit-full, exit-added, branches, Selects, selects}
 use Rattle.cfg_regions.specs.ByInst.{ByTerminator, at-unreachable, at-return, at-exit, at-branch, at-bool, at-number, ByControlInst}
 use Rattle.cfg_regions.specs.ByInst.{by-inst}
@@ -138,9 +137,7 @@ steady-body {w} {r} st (by-loop z y x e) =
 steady-state : {g : Graph} {w w′ : List ℕ} {r n m : ℕ} {a : Claim} → Stands w g → ClaimsByState g w r n m w′ a → SteadyRecord w w′
 steady-state st (ready-claimed e s b) = steady-body st b
 steady-state {w} st (ready-waits e d s) = rw s (steady-same w)
-steady-state {w} st (busy-claimed e d s) = rw s (steady-same w)
-steady-state {w} st (busy-waits e d s) = rw s (steady-same w)
-steady-state {w} st (other-state e d s) = rw s (steady-same w)
+steady-state {w} st (not-ready d s) = rw s (steady-same w)
 
 exit-kinds : {w w′ : List ℕ} {r : ℕ} {a : Made} → AddsExit w r w′ a → SameKinds w w′
 exit-kinds (exit-full d) = defines-kinds d

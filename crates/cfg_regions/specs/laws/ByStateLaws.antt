@@ -12,12 +12,11 @@ use Rattle.state_words.specs.Sections.{word, stored, kinds, backedges, bodies, 
 use Rattle.state_words.specs.declared.defined.Made.{Made}
 use Rattle.cfg_loops.specs.Loops.{StructurizesLoop}
 use Rattle.cfg_regions.specs.declared.claim.Claim.{Claim}
-use Rattle.cfg_regions.specs.declared.claim.Claim.the-variants.{Claimed, Unclaimed, Refused}
+use Rattle.cfg_regions.specs.declared.claim.Claim.the-variants.{Claimed, Unclaimed}
 use Rattle.cfg_regions.specs.ByState.{claim-of, backedge-at, as-claimed, ClaimsBody, no-backedges, none-found, by-loop, ClaimsByState}
-use Rattle.cfg_regions.specs.ByState.{ready-claimed, ready-waits, busy-claimed, busy-waits, other-state, is-trivial, unclaimed-word}
-use Rattle.state_words.specs.Rows.{kind-claimed, kind-in-progress, kind-ready, largest, no-bundle-word, region-kind, level-unreachable}
+use Rattle.cfg_regions.specs.ByState.{ready-claimed, ready-waits, not-ready, is-trivial, unclaimed-word}
+use Rattle.state_words.specs.Rows.{kind-claimed, kind-ready, largest, no-bundle-word, region-kind, level-unreachable}
 use Rattle.state_words.specs.Rows.{level-deferred}
-use Rattle.store.specs.declared.refusals.Refusal.the-variants.{AlreadyClaimed}
 
 -- ---- The functions, path by path.
 module _ (w : List ℕ) (t state : ℕ) (of-state : state ≡ region-kind w t) where
@@ -81,13 +80,5 @@ module _ (g : Graph) (w : List ℕ) (r n incoming : ℕ) {state : ℕ} (of-state
     pub state-waits : same ≡ false → ClaimsByState g w r n incoming w Unclaimed
     state-waits e = ready-waits (sym of-state ∙ ready) (λ z. eqb-false incoming m (sym test ∙ e) (z ∙ sym all-edges)) refl
 
-  module _ (busy : state ≡ kind-in-progress) {same : Bool} (test : same ≡ eqb incoming n) where
-    pub busy-refuses : same ≡ true → ClaimsByState g w r n incoming w (Refused (AlreadyClaimed r))
-    busy-refuses e = busy-claimed (sym of-state ∙ busy) (eqb-true incoming n (sym test ∙ e)) refl
-
-    pub busy-stays : same ≡ false → ClaimsByState g w r n incoming w Unclaimed
-    busy-stays e = busy-waits (sym of-state ∙ busy) (eqb-false incoming n (sym test ∙ e)) refl
-
-  pub other-refuses : (state ≡ kind-ready → ⊥) → (state ≡ kind-in-progress → ⊥)
-      → ClaimsByState g w r n incoming w (Refused (AlreadyClaimed r))
-  other-refuses d e = other-state (λ z. d (of-state ∙ z)) (λ z. e (of-state ∙ z)) refl
+  pub other-waits : (state ≡ kind-ready → ⊥) → ClaimsByState g w r n incoming w Unclaimed
+  other-waits d = not-ready (λ z. d (of-state ∙ z)) refl

@@ -1,5 +1,5 @@
 -- On a valid graph nesting makes at most 1 + e + n × (2n - 1) attempts, n the reachable regions and e the edges that lead from
--- them, a target named twice two; and it is turned away by a limit alone: fuel never runs out, refusal 12 is never met.
+-- them, a target named twice two; and it is turned away by a limit alone: fuel never runs out, and where the Rust stops is never met.
 use mathlib.Core.Path.{_≡_, refl, sym, ap, _∙_}
 use mathlib.Core.Bool.{Bool, true, false}
 use mathlib.Core.List.{List, [], _∷_}

@@ -1,4 +1,4 @@
--- A claim of a begun region, counted: refusal 12 is never met, and a claimed set holds no more edges than its region held.
+-- A claim of a begun region, counted: where the Rust stops is never met, and a claimed set holds no more edges than its region held.
 use mathlib.Core.Path.{_≡_, refl, sym, ap, _∙_}
 use mathlib.Core.Bool.{Bool, true, false}
 use mathlib.Core.List.{List, map}
@@ -29,7 +29,7 @@ use Rattle.follows.specs.counting.Counting.{Counting, Nine, busy, live-c
 use Rattle.follows.specs.counting.Counting.{owed-set}
 use Rattle.follows.specs.counting.Counting.{edges-waiting-set, edges-waiting-at, Good, Fine, CountInv, Pre, Counted, counted-then}
 use Rattle.follows.specs.counting.Counting.{counted-still, inv-set, busy-else, busy-here}
-use Rattle.format.specs.Refusals.{already-claimed}
+use Rattle.format.specs.Refusals.{never}
 
 abbrev SetIs : DeferredEdgeBundleSet → Option ClaimedRegion → Type 0
 SetIs d none = ⊥
@@ -235,7 +235,7 @@ module _ (K : Counting) where
     claim-by-state-counted in-progress p e = go (eqb (K .incoming q) n) refl
       where
         go : (x : Bool) → eqb (K .incoming q) n ≡ x → Post {A = Option ClaimedRegion} Nine (λ o s′. Claims 0 q n s o s′)
-            (let y : Step (Option ClaimedRegion) = elim x [ false ↦ give none | true ↦ turn-away already-claimed q ] in y s)
+            (let y : Step (Option ClaimedRegion) = elim x [ false ↦ give none | true ↦ turn-away never q ] in y s)
         go false e = let y = q-room in let z = eqb-false (K .incoming q) n e in record { post = not-claimed q n s (omega arith) (pre .inv) }
         go true e = let y = q-room in let z = pre .waits q (ap busy p) in let w = eqb-true (K .incoming q) n e in absurd (omega arith)
     claim-by-state-counted (ready b children d) p e = ready-counted b children d p

@@ -229,7 +229,7 @@ module _ (K : Counting) where
     is : state-of s′ q ≡ x
     old : not-begun-one x ≡ 0
 
-  -- With more fuel than regions not begun: out of fuel and 12 are never answered.
+  -- With more fuel than regions not begun: what cannot be met is never answered.
   pub claim-counted : (fuel : ℕ) → ClaimCounted K fuel (try-claim-edge-bundle (K .g) (K .counts) fuel)
   unfolding try-claim-edge-bundle
   claim-counted zero q n inputs H s in-q pos pre = absurd (let z = pre .enough in omega arith)

@@ -210,7 +210,7 @@ A-invented-wrong : (s : Sheet) → s .figure ≡ 10 → SoundSheet (store-of-gra
 unfolding sheet-of figure
 A-invented-wrong s e h = let z : s .figure ≡ 11 = ap (λ s. s .figure) (one-sheet A-accepted A-nests h) in omega arith
 
--- ---- 5: a refusal is numbered 1 to 11, so neither 0 nor 12.
+-- ---- 5: a refusal is numbered 1 to 11, so not 0.
 numbered : {n w : ℕ} → Refusal n w → Within 1 11 n
 numbered (by-store h l) = (h .0, omega (arith, h .1))
 numbered by-limit = (omega arith, omega arith)
@@ -218,8 +218,5 @@ numbered by-lent = (omega arith, omega arith)
 numbered by-figure = (omega arith, omega arith)
 
 -- A nester that stops where the Rust does, and one whose fuel runs out.
-twelve-wrong : (w : ℕ) → Refusal 12 w → ⊥
-twelve-wrong w h = omega (arith, numbered h .1)
-
 nought-wrong : (w : ℕ) → Refusal 0 w → ⊥
 nought-wrong w h = omega (arith, numbered h .0)

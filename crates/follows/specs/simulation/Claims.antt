@@ -32,7 +32,7 @@ use Rattle.follows.specs.simulation.TargetRegions.{ClaimOk, cases-back, 
 use Rattle.follows.specs.simulation.ByTerminator.{by-control-inst-post}
 use Rattle.follows.specs.simulation.Scan.{resolve-deferred-post}
 use Rattle.meaning.specs.facts.Elements.{extends-refl}
-use Rattle.format.specs.Refusals.{already-claimed}
+use Rattle.format.specs.Refusals.{never}
 
 module _ (W : World) where
   not-free : (r : ℕ) (r-in : r < size W) (s : NestState) (inv : Inv W s) → state-of s r ≡ not-begun → (was : idle (state-of s r) ≡ true)
@@ -91,7 +91,7 @@ module _ (W : World) where
   claim-by-state-post r n inc ins s inv r-in in-progress p = go (eqb inc n)
     where
       go : (o : Bool) → IfDone (ClaimDone W r ins s)
-          (at-state {A = Option ClaimedRegion} (elim o [ false ↦ give none | true ↦ turn-away already-claimed r ]) s)
+          (at-state {A = Option ClaimedRegion} (elim o [ false ↦ give none | true ↦ turn-away never r ]) s)
       go false = record { post = record { inv = inv; step = later-refl W s; got = tt } }
       go true = record { post = tt }
 

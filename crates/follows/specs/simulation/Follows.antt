@@ -18,7 +18,7 @@ use Rattle.meaning.specs.facts.Tests.{clash, false-if}
 use Rattle.format.specs.Valid.{Valid}
 use Rattle.format.specs.Store
 use Rattle.format.specs.Store.{accepted}
-use Rattle.format.specs.Refusals.{already-claimed}
+use Rattle.format.specs.Refusals.{never}
 use Rattle.nesting.specs.lookups.Contexts.{rooted-ends}
 use Rattle.nesting.specs.Nesting.{DeferredTarget, to-region, to-return, DeferredEdgeBundle, DeferredEdgeBundleSet, Outcome, untouched}
 use Rattle.nesting.specs.Nesting.{whole, closed, leftover, Nested, IncomingEdgeCount, StructurizeRegionState, not-begun, in-progress}
@@ -64,7 +64,7 @@ module _ (g : Graph) (counts : List IncomingEdgeCount) where
   as-itself r n ins in-progress s = go (eqb (getD counts r 0) n)
     where
       go : (o : Bool) → IfDone (Itself r n)
-          (at-state {A = Option ClaimedRegion} (elim o [ false ↦ give none | true ↦ turn-away already-claimed r ]) s)
+          (at-state {A = Option ClaimedRegion} (elim o [ false ↦ give none | true ↦ turn-away never r ]) s)
       go false = record { post = tt }
       go true = record { post = tt }
   as-itself r n ins (ready b ks d) s = go (eqb (getD counts r 0) (n + b)) refl

@@ -29,7 +29,7 @@ use Rattle.nesting.specs.named.NamedSteps.{KeepsNamed, then-keeps, next-
 use Rattle.nesting.specs.named.NamedSteps.{define-node-named}
 use Rattle.nesting.specs.named.NamedSteps.{insert-rewrites-named, materialize-named}
 use Rattle.nesting.specs.named.NamedSelects.{BundleMaybe, bundle-named, condition-named, BodyNamed, append-named, select-into-named}
-use Rattle.format.specs.Refusals.{already-claimed, never}
+use Rattle.format.specs.Refusals.{never}
 
 module _ (M : ℕ) where
   abbrev pub ClaimMaybe : Option ClaimedRegion → Type 0
@@ -172,13 +172,13 @@ module _ (M : ℕ) where
     claim-by-state-named : (r n : ℕ) (ins : List Value) (inc : ℕ) (x : StructurizeRegionState)
         → KeepsNamed M (AllNamed M ins × StateNamed M x) ClaimMaybe (claim-by-state g r n ins inc x)
     claim-by-state-named r n ins inc not-begun = refusal-named never r
-    claim-by-state-named r n ins inc claimed = refusal-named already-claimed r
+    claim-by-state-named r n ins inc claimed = refusal-named never r
     claim-by-state-named r n ins inc in-progress = go (eqb inc n)
       where
         go : (b : Bool) → KeepsNamed M (AllNamed M ins × Unit) ClaimMaybe
-            (elim b as (λ b. Step (Option ClaimedRegion)) [ false ↦ give none | true ↦ turn-away already-claimed r ])
+            (elim b as (λ b. Step (Option ClaimedRegion)) [ false ↦ give none | true ↦ turn-away never r ])
         go false = give-keeps M none (λ h. tt)
-        go true = refusal-named already-claimed r
+        go true = refusal-named never r
     claim-by-state-named r n ins inc (ready b ks d) = go (eqb inc (n + b))
       where
         go : (c : Bool) → KeepsNamed M (AllNamed M ins × (NodesNamed M ks × SetNamed M d)) ClaimMaybe

@@ -23,7 +23,7 @@ use Rattle.nesting.specs.steps.RegionsLeft.{state-of, with-state, not-be
 use Rattle.nesting.specs.steps.RegionsLeft.{FewerUnclaimed}
 use Rattle.nesting.specs.steps.RegionsLeft.{fewer-refl, fewer-then, fewer-less, fewer-still, AnyRefusal, claimed-count, ClaimFewer}
 use Rattle.meaning.specs.facts.Tests.{in-or-out}
-use Rattle.format.specs.Refusals.{already-claimed}
+use Rattle.format.specs.Refusals.{never}
 
 module _ (g : Graph) (claim : Claim) (claim-fewer : ClaimFewer claim) where
   edge-case-fewer : (e : Edge) (o : Option ClaimedRegion) (s : NestState)
@@ -152,7 +152,7 @@ module _ (g : Graph) (counts : List IncomingEdgeCount) where
   claim-by-state-fewer r n inputs incoming s in-progress p = go (eqb incoming n)
     where
       go : (b : Bool) → Post {A = Option ClaimedRegion} AnyRefusal (λ o s′. FewerUnclaimed (claimed-count o) s s′)
-          (let y : Step (Option ClaimedRegion) = elim b [ false ↦ give none | true ↦ turn-away already-claimed r ] in y s)
+          (let y : Step (Option ClaimedRegion) = elim b [ false ↦ give none | true ↦ turn-away never r ] in y s)
       go false = record { post = fewer-refl s }
       go true = record { post = tt }
   claim-by-state-fewer r n inputs incoming s (ready b children d) p = go (eqb incoming (n + b))

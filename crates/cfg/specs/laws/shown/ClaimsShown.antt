@@ -92,7 +92,7 @@ pub record ShownParts (g : Graph) (valid : Valid g) : Type 0 where
   pub by-state : {w w′ : List ℕ} {r n : ℕ} {a : code.Claim} → ClaimsByState g w r n (getD (incoming-edge-counts g) r 0) w′ a
       → (fuel : ℕ) (H : ℕ → ℕ) (s : NestState) (inputs : List Value) → ShowsState g w s → cells-in-all g w ≤ most-cells-in-all
       → is-in r (K g valid .live) ≡ true → length inputs ≡ length (region g r .inputs) → (region-kind w r ≡ kind-not-begun → ⊥)
-      → CanClaim g valid fuel H (λ q. edges-to q (to-region r) n) 0 s
+      → 1 ≤ n → CanClaim g valid fuel H (λ q. edges-to q (to-region r) n) 0 s
       → ClaimShows g w w′ r inputs (claim-by-state g r n inputs (getD (incoming-edge-counts g) r 0) (state-of s r) s) a
   pub by-inst : {w w′ : List ℕ} {r : ℕ} {a : Made} → ByControlInst g w r w′ a → (s : NestState) (cs : List MaybeClaimedRegion)
       → ShowsState g w s → cells-in-all g w ≤ most-cells-in-all → r < length (g .regions) → region-kind w r ≡ kind-in-progress
@@ -558,7 +558,7 @@ module _ (g : Graph) (valid : Valid g) (parts : ShownParts g valid) (counts : Li
         let old : not-begun-one (state-of s r) ≡ 0 = some-kind (at .regions r in-graph) d in
         let result = parts .by-state (subst (λ m. ClaimsByState g (attempted w) r n m w′ a) (right r in-graph) c) (suc fuel) H
         (add-attempt s)
-        inputs at (let z = attempt-cells shown few in omega arith) live many d (can-later g valid fuel H r n s in-graph live pos can) in
+        inputs at (let z = attempt-cells shown few in omega arith) live many d pos (can-later g valid fuel H r n s in-graph live pos can) in
         claim-before (attempt-preserves shown few) (λ x. still-occupied (attempt-preserves shown few) r x)
         (let z = attempt-cells shown few in omega arith) (begun-before g fuel r n inputs s (state-of s r) refl old) result
     claim-shown {w} {r} {n} (refused-inside b t) (suc fuel) H s inputs shown room live pos many can =
@@ -583,7 +583,7 @@ module _ (g : Graph) (valid : Valid g) (parts : ShownParts g valid) (counts : Li
         let z : region-kind w r ≡ kind-not-begun = sym (attempt-kinds shown few r) ∙ b .kind in
         let result = parts .by-state (subst (λ m. ClaimsByState g w₁ r n m w′ a) (right r in-graph) c) (suc fuel) H s₁ inputs st
         (omega arith)
-        live many (kind-some r (st .regions r in-graph) old) after in
+        live many (kind-some r (st .regions r in-graph) old) pos after in
         claim-before v (λ x. absurd (not-occupied w r z x)) (omega arith) (begun-now g fuel r n inputs s fresh p) result
 
     pub region-shown : {w w′ : List ℕ} {r : ℕ} {a : Verdict} → StructurizesRegion g counts w r w′ a → (fuel : ℕ) (H : ℕ → ℕ) (s : NestState)

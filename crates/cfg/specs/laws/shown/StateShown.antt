@@ -17,7 +17,8 @@ use Rattle.nesting.specs.Nesting.{to-return, ClaimedRegion, claim-by-state, cla
 use Rattle.nesting.specs.Nesting.{StructurizeRegionState, not-begun, in-progress, claimed, ready, incoming-edge-counts}
 use Rattle.nesting.specs.steps.RegionsLeft.{state-of, with-state}
 use Rattle.follows.specs.counting.Totals.{edge-total, edges-to, edgeless}
-use Rattle.follows.specs.counting.Counting.{Fine, edges-waiting-by, edges-waiting-at}
+use Rattle.follows.specs.counting.Counting.{Fine, busy, edges-waiting, edges-waiting-by, edges-waiting-at}
+use Rattle.follows.specs.counting.CountClaim.{edges-self}
 use Rattle.state_words.specs.declared.defined.Made.{Made}
 use Rattle.state_words.specs.Sections.{word, stored, kinds, bodies, backedges, children, set-starts, head, used}
 use Rattle.state_words.specs.laws.Apart.{section-other, stored-length}
@@ -38,7 +39,7 @@ use Rattle.cfg_regions.specs.declared.claim.Claim.the-variants.{Claimed}
 use Rattle.cfg_regions.specs.laws.Leaves.{loops-kinds}
 use Rattle.cfg_regions.specs.ByState.{ClaimsBody, no-backedges, none-found as none-leads-back, by-loop, ClaimsByState, ready-claimed}
 use Rattle.cfg_regions.specs.ByState.{ready-waits}
-use Rattle.cfg_regions.specs.ByState.{busy-claimed, busy-waits, other-state, as-claimed, backedge-at, claim-of}
+use Rattle.cfg_regions.specs.ByState.{not-ready, as-claimed, backedge-at, claim-of}
 use Rattle.cfg.specs.laws.shown.Shows.{CanClaim, ClaimShows, K, Occupied, PreservesOccupied, cells-in-all, chains-of}
 use Rattle.cfg.specs.laws.shown.Shows.{most-cells-in-all, occupied-same, owed-kind, owed-stays, shows-claimed, shows-refused}
 use Rattle.cfg.specs.laws.shown.Shows.{shows-unclaimed}
@@ -266,10 +267,28 @@ module _ (g : Graph) (valid : Valid g) (few : length (g .regions) ≤ 32) (bound
       body-shown (by-loop h f x e) = rw e (loop-from x h f leads-back)
 
     pub state-shown : {w′ : List ℕ} {a : code.Claim} → ClaimsByState g w r n (getD (incoming-edge-counts g) r 0) w′ a
-        → (region-kind w r ≡ kind-not-begun → ⊥)
+        → (region-kind w r ≡ kind-not-begun → ⊥) → 1 ≤ n
         → ClaimShows g w w′ r inputs (claim-by-state g r n inputs (getD (incoming-edge-counts g) r 0) (state-of s r) s) a
-    state-shown {w′} {a} step begun = go (state-of s r) refl (shown .regions r in-graph) a w′ step
+    state-shown {w′} {a} step begun pos = go (state-of s r) refl (shown .regions r in-graph) a w′ step
       where
+        -- What is held for r, what the callers keep and the bundle's own edges are at most its count.
+        held : edges-waiting (K g valid) r (s .region-states) + (n + H r) ≤ getD (incoming-edge-counts g) r 0
+        held =
+            let x = can .pre .room r in
+            let y = edges-self (K g valid) r n in
+            let z = K g valid .counts-right r live in omega arith
+
+        never-claimed : state-of s r ≡ claimed → ⊥
+        never-claimed p =
+            let x = edges-waiting-at (K g valid) r r (s .region-states) live in
+            let y = ap (edges-waiting-by (K g valid) r r) p in
+            let z : edges-waiting-by (K g valid) r r claimed ≡ K g valid .incoming r = rw (eq-eqb r r refl) in
+            let u = K g valid .counts-right r live in
+            let v = held in absurd (omega arith)
+
+        others-wait : state-of s r ≡ in-progress → getD (incoming-edge-counts g) r 0 ≡ n → ⊥
+        others-wait p e = let x = can .pre .waits r (ap busy p) in let v = held in absurd (omega arith)
+
         m : ℕ
         m = getD (incoming-edge-counts g) r 0
 
@@ -278,19 +297,13 @@ module _ (g : Graph) (valid : Valid g) (few : length (g .regions) ≤ 32) (bound
         go not-begun p (is-not-begun e) a w′ y = absurd (begun e)
         go in-progress p (is-in-progress e) a w′ (ready-claimed f q b) = absurd (omega arith)
         go in-progress p (is-in-progress e) a w′ (ready-waits f q t) = absurd (omega arith)
-        go in-progress p (is-in-progress e) a w′ (busy-claimed f q t) = rw (claim-by-state, eq-eqb m n q) (shows-refused refl)
-        go in-progress p (is-in-progress e) a w′ (busy-waits f q t) =
-            rw (claim-by-state, ne-eqb m n q, t) (shows-unclaimed refl shown (occupied-same g w) (omega arith))
-        go in-progress p (is-in-progress e) a w′ (other-state f q t) = absurd (q e)
+        go in-progress p (is-in-progress e) a w′ (not-ready f t) =
+            rw (claim-by-state, ne-eqb m n (others-wait p), t) (shows-unclaimed refl shown (occupied-same g w) (omega arith))
         go claimed p (is-claimed e) a w′ (ready-claimed f q b) = absurd (omega arith)
         go claimed p (is-claimed e) a w′ (ready-waits f q t) = absurd (omega arith)
-        go claimed p (is-claimed e) a w′ (busy-claimed f q t) = absurd (omega arith)
-        go claimed p (is-claimed e) a w′ (busy-waits f q t) = absurd (omega arith)
-        go claimed p (is-claimed e) a w′ (other-state f q t) = shows-refused refl
+        go claimed p (is-claimed e) a w′ (not-ready f t) = absurd (never-claimed p)
         go (ready b ks d) p (is-ready e back nodes set) a w′ (ready-claimed f q y) =
             rw (claim-by-state, eq-eqb m (n + b) (q ∙ rw back)) (body-shown b ks d e back nodes set p y)
         go (ready b ks d) p (is-ready e back nodes set) a w′ (ready-waits f q t) =
             rw (claim-by-state, ne-eqb m (n + b) (λ z. q (z ∙ rw back)), t) (shows-unclaimed refl shown (occupied-same g w) (omega arith))
-        go (ready b ks d) p (is-ready e back nodes set) a w′ (busy-claimed f q t) = absurd (omega arith)
-        go (ready b ks d) p (is-ready e back nodes set) a w′ (busy-waits f q t) = absurd (omega arith)
-        go (ready b ks d) p (is-ready e back nodes set) a w′ (other-state f q t) = absurd (f e)
+        go (ready b ks d) p (is-ready e back nodes set) a w′ (not-ready f t) = absurd (f e)

@@ -62,8 +62,8 @@ module _ (g : Graph) (valid : Valid g) where
         few = omega arith;
         few-targets = few-targets;
         few-incoming = few-incoming;
-        by-state = λ {w} {w′} {r} {n} {a} step fuel H s inputs shown cells live many begun can.
-            state-shown g valid (omega arith) few-incoming w r n fuel H s inputs shown cells live many can step begun;
+        by-state = λ {w} {w′} {r} {n} {a} step fuel H s inputs shown cells live many begun pos can.
+            state-shown g valid (omega arith) few-incoming w r n fuel H s inputs shown cells live many can step begun pos;
         by-inst = λ x. inst-shown g valid (omega arith) x;
         by-resolve = λ x. resolve-shown g valid (omega arith) x;
       }

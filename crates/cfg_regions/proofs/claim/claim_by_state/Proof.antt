@@ -1,8 +1,7 @@
 use borrow.Author.Needs.{needs}
 use Rattle.cfg_regions.proofs.claim.claim_by_state.Statement.{statement}
 use Rattle.cfg_regions.proofs.claim.claim_by_state.Tie as tie
-use Rattle.cfg_regions.specs.laws.ByStateLaws.{state-claimed, state-waits, busy-refuses, busy-stays}
-use Rattle.cfg_regions.specs.laws.ByStateLaws.{other-refuses}
+use Rattle.cfg_regions.specs.laws.ByStateLaws.{state-claimed, state-waits, other-waits}
 
 region-state-requires : tie.Need-region-state-requires
 region-state-requires c κs = search needs
@@ -47,19 +46,8 @@ returns-2 c =
     (at-pre .pre) (at-plus .plus .ensures)
     (c .before .same .ensures) (c .if2 .left)
 
-same-requires-2 : tie.Need-same-requires-2
-same-requires-2 c κs = search needs
-
 returns-3 : tie.Need-returns-3
-returns-3 c = λ g st. busy-refuses g _ _ _ _ (c .before .before .before .before .region-state .ensures) (c .before .before .if3 .taken)
-    (c .before .same2 .ensures) (c .if4 .taken)
-
-returns-4 : tie.Need-returns-4
-returns-4 c = λ g st. busy-stays g _ _ _ _ (c .before .before .before .before .region-state .ensures) (c .before .before .if3 .taken)
-    (c .before .same2 .ensures) (c .if4 .left)
-
-returns-5 : tie.Need-returns-5
-returns-5 c = λ g st. other-refuses g _ _ _ _ (c .before .before .region-state .ensures) (c .before .if1 .left) (c .if3 .left)
+returns-3 c = λ g st. other-waits g _ _ _ _ (c .before .region-state .ensures) (c .if1 .left)
 
 pub claim-by-state-spec : {M : Type 1} → statement M
 claim-by-state-spec =
@@ -72,7 +60,4 @@ claim-by-state-spec =
     claim-body-requires
     returns
     returns-2
-    same-requires-2
-    returns-3
-    returns-4
-    returns-5)
+    returns-3)
