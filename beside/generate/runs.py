@@ -46,7 +46,7 @@ from .stores import plain
 Numbers = tuple[int, int, int, int]  # of a rule
 
 SEED, BUDGET, WORD = 11, 256, 1 << 32
-MOST, EACH = 400, 12  # vectors in all, and for each feature
+MOST, EACH = 400, 12  # vectors without those of `entry_inputs`, and for each feature
 EVENTS, TURNS = 40, 60  # at most, of what is drawn
 DRAWS, RUNS = 15000, 8  # records, and runs of each
 LISTS = pathlib.Path(__file__).resolve().parents[1] / "lists"
@@ -301,6 +301,23 @@ def budgets() -> Iterator[Vector]:
         yield Vector(nested(entered_twice(3)), [turns], [], (0, 1, 0, down), (300, 400))
 
 
+def second_returned() -> Record:
+    """The entry is region 1, with two inputs, of which the second is read and returned, and with three blocks, the first of two."""
+    blocks = [
+        [Inst(3, 2, 1, [(INPUT, 1, 1)]), Inst(4, 2, 2, [(INSTR, 1, 0)])],
+        [Inst(5, 2, 3, [(INSTR, 1, 1)])],
+        [Inst(6, 0, 4, [(INSTR, 1, 2)])],
+    ]
+    entry = plain(inputs=[2, 2], blocks=blocks, kind=BRANCH, targets=[0], passed={0: [(INPUT, 1, 1)]})
+    return Record(1, 2, [], [plain(inputs=[2], values=[(INPUT, 0, 0)]), entry])
+
+
+def entry_inputs() -> Iterator[Vector]:
+    """The second of two entry inputs, and the same with the two words swapped."""
+    for words in ([70000, 70001], [70001, 70000]):
+        yield Vector(nested(second_returned()), [], words, (0, 1, 0, 1))
+
+
 def draw(rng: random.Random) -> Iterator[Vector]:
     """A record, and words and rules for it."""
 
@@ -328,7 +345,7 @@ def draw(rng: random.Random) -> Iterator[Vector]:
 
 
 def vectors(rng: random.Random) -> tuple[dict[str, Vector], collections.Counter[str]]:
-    """Those at the budgets, those with something that is wanted still, then others that end."""
+    """Those at the budgets, those with something that is wanted still, others that end, then those with two entry inputs."""
     counts: collections.Counter[str] = collections.Counter()
     found: dict[str, Vector] = {}
     others: dict[str, Vector] = {}
@@ -347,6 +364,8 @@ def vectors(rng: random.Random) -> tuple[dict[str, Vector], collections.Counter[
             elif not isinstance(vector.end, str) and len(vector.events) > 3 and len(others) < 2 * MOST:
                 others[str(vector)] = vector
     for vector in list(others.values())[: MOST - len(found)]:
+        take(vector)
+    for vector in entry_inputs():
         take(vector)
     return found, counts
 

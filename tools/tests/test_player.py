@@ -187,14 +187,14 @@ class ByThePages(unittest.TestCase):
     """The player of the pages, beside the reading."""
 
     def test_vectors(self) -> None:
-        """All 400 runs: end, values, instructions in order with their reads, cost, and whether a limit was passed."""
+        """All 402 runs: end, values, instructions in order with their reads, cost, and whether a limit was passed."""
         run = 0
         for result, constants, inputs, answer, expected in vectors():
             self.assertIn(result.outcome, (WHOLE, CLOSED))
             player = Player(read_sheet(words(result, LENT)), result.record, constants, inputs, answer)
             self.assertEqual(line(player), expected)
             run += 1
-        self.assertEqual(run, 400)
+        self.assertEqual(run, 402)
 
     def test_one_by_one(self) -> None:
         """Inputs that are given one by one go wrong in the swap, as docs/PLAYER.md says, and in some vectors."""

@@ -1,3 +1,4 @@
+pub mod BeforeRun
 pub mod NoEnds
 pub mod RunText
 pub mod RunForms

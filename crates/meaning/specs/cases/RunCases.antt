@@ -8,6 +8,7 @@ use Rattle.meaning.specs.Text.{Text, ascii}
 use Rattle.meaning.specs.cases.RunText.{given-words, graph-says, form-says}
 use Rattle.meaning.specs.cases.RunForms.{Formed, reads-all, by-number, by-word, leaves, swaps, ends-by-exit, until-exit, goes-on}
 use Rattle.meaning.specs.cases.RunForms.{mark-tested, mark-tested-closed, mark-repeated, merges, two-loops, counts, entered-twice}
+use Rattle.meaning.specs.cases.RunForms.{second-returned}
 
 -- Within so many regions and turns.
 pub record RunCase : Type 0 where
@@ -26,6 +27,9 @@ run-cases =
     run-case reads-all (given-words (4294967290 ∷ []) (70000 ∷ []) 1000003 65536 100000 7) 1 0
     "graph returned 3339751347,70000,u,4294967290 0.0/3/4294967290,70000,u;0.1/4/587908816,1,0;0.2/5/-"
     "nested returned 3339751347,70000,u,4294967290 0.0/3/4294967290,70000,u;0.1/4/587908816,1,0;0.2/5/- cost 6 over 0"
+    ∷ run-case second-returned (given-words [] (70000 ∷ 70001 ∷ []) 0 1 0 1) 2 0
+    "graph returned 70001 1.0/3/70001;1.1/4/70002;1.2/5/70003;1.3/6/70004"
+    "nested returned 70001 1.0/3/70001;1.1/4/70002;1.2/5/70003;1.3/6/70004 cost 10 over 0"
     ∷ run-case by-number (given-words (70000 ∷ 70001 ∷ 70002 ∷ []) (0 ∷ []) 0 0 0 0) 2 0
     "graph returned 70000 -"
     "nested returned 70000 - cost 5 over 0"

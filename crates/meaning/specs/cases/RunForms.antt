@@ -25,9 +25,13 @@ plain bs c = at [] bs 1 c []
 abbrev one : {A : Type 0} → A → List A
 one a = a ∷ []
 
--- test cost, constants' types, regions; the entry is region 0
+-- entry, test cost, constants' types, regions
+abbrev graph-from : ℕ → ℕ → List ℕ → List Region → Graph
+graph-from r c ts rs = record { entry = r; test-cost = c; constants = ts; regions = rs }
+
+-- The entry is region 0.
 abbrev graph : ℕ → List ℕ → List Region → Graph
-graph c ts rs = record { entry = 0; test-cost = c; constants = ts; regions = rs }
+graph c ts rs = graph-from 0 c ts rs
 
 abbrev body-input : ℕ → ℕ → Value
 body-input r k = input r k
@@ -81,6 +85,25 @@ reads-all =
     block-node 0 0 0 (one (op 3 2 1 (const 0 ∷ input 0 0 ∷ undef 2 ∷ [])))
     ▸ block-node 1 0 1 (op 4 2 2 (instr 0 0 ∷ bool true ∷ bool false ∷ []) ∷ op 5 0 3 [] ∷ []) ▸ ⟨⟩
     ) (some (instr 0 1 ∷ input 0 0 ∷ undef 2 ∷ const 0 ∷ []))
+
+-- The entry is region 1, with two inputs, of which the second is read and returned, and with three blocks, the first of two instructions.
+abbrev pub second-returned : Formed
+second-returned =
+    formed (
+    graph-from 1 2 [] (
+    at (2 ∷ []) [] 1 (return (input 0 0 ∷ [])) []
+    ∷ at (2 ∷ 2 ∷ []) ((op 3 2 1 (input 1 1 ∷ []) ∷ op 4 2 2 (instr 1 0 ∷ []) ∷ [])
+    ∷ one (op 5 2 3 (instr 1 1 ∷ []))
+    ∷ one (op 6 0 4 (instr 1 2 ∷ []))
+    ∷ []) 1
+    (branch (to 0 (input 1 1 ∷ []))) []
+    ∷ []
+    )
+    ) (
+    block-node 0 1 0 (op 3 2 1 (input 1 1 ∷ []) ∷ op 4 2 2 (instr 1 0 ∷ []) ∷ [])
+    ▸ block-node 1 1 2 (one (op 5 2 3 (instr 1 1 ∷ [])))
+    ▸ block-node 2 1 3 (one (op 6 0 4 (instr 1 2 ∷ []))) ▸ ⟨⟩
+    ) (some (input 1 1 ∷ []))
 
 -- A number test of three places, each of which returns a constant of its own.
 abbrev pub by-number : Formed
