@@ -6,4 +6,5 @@ pub mod Accept
 pub mod Valid
 pub mod Places
 pub mod stores
+pub mod cases
 pub mod laws
