@@ -1,5 +1,7 @@
 // Standard input to its end, and the text that is put out: for the programs alone, which say on standard error what failed.
+ghost use Prim.Native.Nat.{_<_};
 ghost use mathlib.Core.Path.{_≡_};
+ghost use mathlib.Core.Bool.{true};
 ghost use lib.ListN.{length};
 ghost use Rattle.text.specs.declared.Written.the-variants.{Full};
 ghost use Rattle.io.specs.Counts.{Counts};
@@ -16,6 +18,7 @@ pub struct Input {
 // Until the input ends, or the buffer is full.
 pub fn read_input(buffer: &mut [u8]) -> Input
     ensures { λ r. ⌜ Counts (r .size) (now (buffer .exit)) ⌝ }
+    ensures { λ r. ⌜ (r .failed ≡ true → r .size < length (now (buffer .exit))) ⌝ }
 {
     let mut at: usize = 0;
     while at < buffer.len() {

@@ -1,5 +1,7 @@
+use Rattle.meaning.specs.facts.Tests.{clash}
 use Rattle.streams.specs.laws.Counted.{counted}
-use mathlib.Core.Path.{_≡_}
+use mathlib.Core.Path.{_≡_, ap}
+use Rattle.meaning.specs.Lists.{bit}
 use Prim.Native.Nat.{_-_, _≤_}
 use native.Mathlib.Omega.{arith}
 use lib.ListN.{length}
@@ -32,7 +34,7 @@ same-length : tie.Need-same-length Inv-loop μ-loop
 same-length c = search needs
 
 returns : tie.Need-returns Inv-loop μ-loop
-returns c = counted _ _ (omega arith)
+returns c = (counted _ _ (omega arith), λ _. omega arith)
 
 sub-count : tie.Need-sub-count Inv-loop μ-loop
 sub-count c = search needs
@@ -50,7 +52,7 @@ same-length-2 : tie.Need-same-length-2 Inv-loop μ-loop
 same-length-2 c = search needs
 
 returns-2 : tie.Need-returns-2 Inv-loop μ-loop
-returns-2 c = counted _ _ (omega arith)
+returns-2 c = (counted _ _ (omega arith), λ e. absurd (clash (ap bit e)))
 
 add-at : tie.Need-add-at Inv-loop μ-loop
 add-at c = search needs
@@ -65,7 +67,7 @@ same-length-3 : tie.Need-same-length-3 Inv-loop μ-loop
 same-length-3 c = search needs
 
 returns-3 : tie.Need-returns-3 Inv-loop μ-loop
-returns-3 c = counted _ _ (omega arith)
+returns-3 c = (counted _ _ (omega arith), λ e. absurd (clash (ap bit e)))
 
 pub read-input-spec : {M : Type 1} → statement M
 read-input-spec =
