@@ -7,6 +7,7 @@ import pathlib
 import sys
 from collections.abc import Iterable, Iterator
 
+END = b"\xff\xff\xff"  # of a list
 ROOT = pathlib.Path(__file__).resolve().parents[1]
 sys.path.insert(0, str(ROOT / "beside"))
 
@@ -16,6 +17,17 @@ from generate.vectors import read_vectors  # noqa: E402
 
 def packed(store: bytes) -> bytes:
     return len(store).to_bytes(3, "little") + store
+
+
+def lists(stores: Iterable[bytes], most: int) -> list[bytes]:
+    """The stores as lists for the board, each of at most so many bytes, its end included (interface/board/board.h)."""
+    made = [b""]
+    for store in stores:
+        item = packed(store)
+        if len(made[-1]) + len(item) + len(END) > most:
+            made.append(b"")
+        made[-1] += item
+    return [whole + END for whole in made]
 
 
 def stores(names: Iterable[str]) -> Iterator[bytes]:

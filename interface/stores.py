@@ -9,7 +9,7 @@ import sys
 ROOT = pathlib.Path(__file__).resolve().parents[1]
 sys.path.insert(0, str(ROOT / "beside"))
 
-from generate.vectors import read_vectors      # noqa: E402  (found by the line above)
+from generate.vectors import read_vectors  # noqa: E402  (found by the line above)
 
 
 def chosen():

@@ -1,8 +1,7 @@
 // Takes each store of a list that is accepted through accept, nesting, and the whole from its bytes to its sheet's words. A line for each:
 // the outcome, a digest of the state after nesting and of the sheet, how many words the sheet has (0 where there is none), the bytes of
 // stack below the three calls, by paint, and on the board their instructions; on x86-64 the same file gives 0 for these.
-// A list: for each store 3 bytes of length, then its bytes, packed, so that they begin at any address; 0xffffff ends it.
-#include <stdint.h>
+#include "board.h"
 
 // usize has 64 bits in the module, on every machine.
 uint32_t measured_accept(const uint8_t *bytes, uint64_t length, uint16_t *words);
@@ -14,31 +13,16 @@ static uint16_t words[WORDS];
 static uint32_t out[ROOM];
 
 #ifdef __arm__
-#include "board.h"
 typedef uint32_t cell;
 enum { PAINT = 0x5a5a5a5a };
-extern const uint8_t list[];
 extern cell stack_foot[];
 #define SP "mov %0, sp"
 #else
-#include <stdio.h>
 typedef uint64_t cell;
 #define PAINT 0x5a5a5a5a5a5a5a5a
-static uint8_t list[1 << 25];
 static cell *stack_foot;
-static void put(const char *text) { fputs(text, stdout); }
-static uint32_t clock_now(void) { return 0; }
-static uint32_t instructions_since(uint32_t began) { return began; }
 #define SP "mov %%rsp, %0"
 #endif
-
-static void put_number(uint32_t n, char end) {
-    char text[12], *at = text + 11;
-    *at = 0;
-    *--at = end;
-    do *--at = '0' + n % 10; while (n /= 10);
-    put(at);
-}
 
 static uint32_t took[3], deep[3];
 
@@ -59,14 +43,14 @@ static uint32_t digest;
 static void digested(uint32_t n) { digest = (digest ^ n) * 16777619u; }
 
 int main(void) {
+    begin();
 #ifndef __arm__
-    if (fread(list, 1, sizeof list, stdin) == 0) return 1;
     cell here;
     stack_foot = &here - 8192;
 #endif
     for (const uint8_t *at = list, *bytes;;) {
-        uint32_t length = at[0] | at[1] << 8 | at[2] << 16, refused, outcome, sheet;
-        if (length == 0xffffff) return 0;
+        uint32_t length = length_at(at), refused, outcome, sheet;
+        if (length == END_OF_LIST) return 0;
         bytes = at + 3;
         at += 3 + length;
         digest = 2166136261u;

@@ -8,7 +8,7 @@ FLASH = 896 * 1024
 ROOT = pathlib.Path(__file__).resolve().parents[2]
 sys.path.insert(0, str(ROOT / "bench"))
 
-from packed import packed, stores  # noqa: E402  (found by the line above)
+from packed import lists, stores  # noqa: E402  (found by the line above)
 
 
 def refuse(sentence: str) -> NoReturn:
@@ -17,14 +17,9 @@ def refuse(sentence: str) -> NoReturn:
 
 
 def main(out: str, *files: str) -> None:
-    lists = [b""]
-    for store in [(ROOT / "crates/show/stdin").read_bytes(), *stores(["chains", *files])]:
-        item = packed(store)
-        if len(lists[-1]) + len(item) + 3 > FLASH:
-            lists.append(b"")
-        lists[-1] += item
-    for number, whole in enumerate(lists):
-        (pathlib.Path(out) / f"list.{number:02}").write_bytes(whole + b"\xff\xff\xff")
+    first = (ROOT / "crates/show/stdin").read_bytes()
+    for number, whole in enumerate(lists([first, *stores(["chains", *files])], FLASH)):
+        (pathlib.Path(out) / f"list.{number:02}").write_bytes(whole)
 
 
 if __name__ == "__main__":

@@ -1,6 +1,7 @@
 """summary.py NAME < LINES                      what the lines of main.c show: the first is case A's, the next four are the chains'
 summary.py --room STATE BOARD < LINES           how many words of a sheet have room on the board beside the state and the deepest stack
 summary.py --budget STATE BOARD WORDS < LINES   where the board's bytes go; WORDS are lent for the sheet
+summary.py --below ACCEPT NESTING WHOLE < LINES fails with status 1 where a stack is deeper than these bounds of the three calls
 """
 
 import statistics
@@ -11,7 +12,7 @@ from typing import NoReturn
 CALLS = "accept", "nesting", "whole"
 OTHER = 256  # bytes for the caller's own frame, and for an interrupt's
 NAMED = 5  # lines of case A and the four chains
-COUNTS = {"--room": 2, "--budget": 3}
+COUNTS = {"--room": 2, "--budget": 3, "--below": 3}
 
 
 @dataclass(frozen=True)
@@ -63,6 +64,16 @@ def budget(lines: list[Line], state: int, board: int, words: int) -> None:
     )
 
 
+def below(lines: list[Line], bounds: list[int]) -> None:
+    """Prints the bounds beside the deepest stacks; status 1 where one is passed."""
+    most = [max(line.stack[place] for line in lines) for place in range(len(CALLS))]
+    pairs = [f"{call} {found:,} of {bound:,}" for call, found, bound in zip(CALLS, most, bounds)]
+    print(f"  deepest stack, and the bound that interface/stack gives: {', '.join(pairs)}")
+    if any(found > bound for found, bound in zip(most, bounds)):
+        print("summary.py: a stack is deeper than its bound", file=sys.stderr)
+        sys.exit(1)
+
+
 def refuse(sentence: str) -> NoReturn:
     """Says what is wrong, and ends."""
     print(f"summary.py: {sentence}", file=sys.stderr)
@@ -85,7 +96,7 @@ def read_lines() -> list[Line]:
 def main(what: str = "", *given: str) -> None:
     """Reads the command and the lines, and prints what was asked for."""
     if not what or len(given) != COUNTS.get(what, 0) or (what.startswith("-") and what not in COUNTS):
-        refuse("usage: summary.py NAME, or --room STATE BOARD, or --budget STATE BOARD WORDS")
+        refuse("usage: summary.py NAME, --room STATE BOARD, --budget STATE BOARD WORDS, or --below ACCEPT NESTING WHOLE")
     try:
         numbers = [int(word) for word in given]
     except ValueError:
@@ -96,6 +107,8 @@ def main(what: str = "", *given: str) -> None:
         print((board - state - deepest(lines) - OTHER) // 4)
     elif what == "--budget":
         budget(lines, *numbers)
+    elif what == "--below":
+        below(lines, numbers)
     else:
         table(what, lines)
 

@@ -26,6 +26,11 @@ class Packed(unittest.TestCase):
         """Three bytes of length, then the store."""
         self.assertEqual(packed.packed(b"abc"), b"\3\0\0abc")
 
+    def test_lists(self) -> None:
+        """A list is full before the next begins; each has its end."""
+        self.assertEqual(packed.lists([b"abc", b"de"], 14), [b"\3\0\0abc\2\0\0de\xff\xff\xff"])
+        self.assertEqual(packed.lists([b"abc", b"de"], 13), [b"\3\0\0abc\xff\xff\xff", b"\2\0\0de\xff\xff\xff"])
+
     def test_chains(self) -> None:
         """The four chains are whole stores."""
         found = list(packed.stores(["chains"]))
@@ -75,6 +80,13 @@ class Summary(unittest.TestCase):
         command = [sys.executable, str(FOLDER / "board" / "summary.py"), "--room", "1000", "2000"]
         told = subprocess.run(command, input="\n".join(self.LINES) + "\n", capture_output=True, text=True)
         self.assertEqual(told.stdout, f"{(2000 - 1000 - 400 - 256) // 4}\n")
+
+    def test_below(self) -> None:
+        """A stack may be as deep as its bound; a byte less, and it is told with status 1."""
+        for bounds, status in (["100", "200", "400"], 0), (["100", "200", "399"], 1), (["99", "200", "400"], 1):
+            command = [sys.executable, str(FOLDER / "board" / "summary.py"), "--below", *bounds]
+            told = subprocess.run(command, input="\n".join(self.LINES) + "\n", capture_output=True, text=True)
+            self.assertEqual(told.returncode, status, bounds)
 
     def test_nonsense(self) -> None:
         """Too few lines, and no numbers, are refused with status 2."""
