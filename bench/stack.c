@@ -1,6 +1,6 @@
 /*
  * The deepest stack of rukvetta_accept and rukvetta_nest over the stores on standard input: for each 3 bytes of its length, then its bytes.
- * With arguments the first stores are told one by one, under these names.
+ * With arguments the first stores are told one by one, under these names. Status 1 where one is deeper than rukvetta.h's bound.
  * The stack below is painted before each call; how far the paint is gone afterwards is how deep the call went, its return address and all.
  */
 #include "rukvetta.h"
@@ -29,8 +29,11 @@ static uint32_t sheet[2 * RUKVETTA_USUAL_LENT];
         if ((size_t)(sp - p) * 8 > (deepest)) (deepest) = (size_t)(sp - p) * 8;      \
     } while (0)
 
+static int passed; /* whether a bound was */
+
 static void tell(const char *name, size_t accepting, size_t nesting)
 {
+    passed |= accepting > RUKVETTA_ACCEPT_STACK || nesting > RUKVETTA_NEST_STACK;
     printf("stack, %s: accept %zu bytes, nest %zu bytes\n", name, accepting, nesting);
 }
 
@@ -56,8 +59,11 @@ int main(int names, char **name)
         if (accept > accepting) accepting = accept;
         if (nest > nesting) nesting = nest;
     }
-    if (stores < names) return 0;
-    snprintf(all, sizeof all, "the deepest of %d other stores", stores - names + 1);
-    tell(all, accepting, nesting);
-    return 0;
+    if (stores >= names) {
+        snprintf(all, sizeof all, "the deepest of %d other stores", stores - names + 1);
+        tell(all, accepting, nesting);
+    }
+    printf("stack, bound: accept %d bytes, nest %d bytes\n", RUKVETTA_ACCEPT_STACK, RUKVETTA_NEST_STACK);
+    if (passed) fprintf(stderr, "stack: a call went deeper than its bound\n");
+    return passed;
 }

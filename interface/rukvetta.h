@@ -5,10 +5,11 @@
  * does. "Document 01" is the scope paper of the routine nester: it fixes store,
  * record, refusals and sheet. docs/REFUSALS.md says what to do about a refusal.
  *
- * Memory. A routine uses what it is lent, and a stack of finite depth (README.md
- * has what was measured). It takes no heap, keeps nothing between calls, and has no
- * memory of its own: calls with different lent memory may run at the same time, in
- * any thread. Nothing lent is kept after the call. Of the C library it needs memset.
+ * Memory. A routine uses what it is lent, and a stack that is bounded below. It takes
+ * no heap, keeps nothing between calls, and has no memory of its own: calls with
+ * different lent memory may run at the same time, in any thread. Nothing lent is kept
+ * after the call. Of the C library it needs memset; on a Cortex-M it needs
+ * __aeabi_memcpy, __aeabi_memclr and __aeabi_memclr4, which its C library has too.
  *
  *   bytes   the store: `length` bytes, read only, any alignment
  *   words   RUKVETTA_WORDS words of 16 bits, aligned for uint16_t. Any values may
@@ -16,7 +17,8 @@
  *   out     `lent` words of 32 bits, aligned for uint32_t, for the sheet
  *
  * The three do not overlap. None is null, even where its length is 0 (any address
- * aligned as above will do then). No array is longer than PTRDIFF_MAX bytes.
+ * aligned as above will do then). No array is longer than PTRDIFF_MAX bytes. A length
+ * has 64 bits on every machine, as the proved routines have it.
  */
 #ifndef RUKVETTA_H
 #define RUKVETTA_H
@@ -28,6 +30,11 @@
 extern "C" {
 #endif
 
+#define RUKVETTA_VERSION_MAJOR 1
+#define RUKVETTA_VERSION_MINOR 0
+#define RUKVETTA_VERSION_PATCH 0
+#define RUKVETTA_VERSION "1.0.0"
+
 /* A store: 1 to 16 blocks of 512 bytes; in each a number, 253 payload words and a check. */
 #define RUKVETTA_BLOCK_BYTES 512
 #define RUKVETTA_BLOCK_WORDS 253
@@ -36,11 +43,42 @@ extern "C" {
 
 /* The lent words: the record stands in front, at most so many of them; behind them its index; then nesting's own. */
 #define RUKVETTA_WORDS 26942
+#define RUKVETTA_STATE_BYTES (2 * RUKVETTA_WORDS)
 #define RUKVETTA_RECORD_WORDS 4048
 #define RUKVETTA_NESTING_FROM 4400
 
 /* What the program `nest` lends for a sheet. A few sheets are longer: then refusal 10, and more may be lent. */
 #define RUKVETTA_USUAL_LENT 16384
+
+/*
+ * The most stack that a call needs, in bytes, its return address included; 64 of them stand for memset and the like. Worked out
+ * from the compiled code: frames, calls, and a level of nesting for each of RUKVETTA_MOST_REGIONS regions. That nesting has no more levels
+ * is proved. That conditions and the walks over a form have no more is reasoned in docs/STACK.md, and was never seen passed.
+ * Of these the proofs say only that cells and records come to an end: _PROVED is the bound by that alone.
+ */
+/* stack: made by interface/build --board --write */
+#if defined(__ARM_ARCH_7M__) /* Cortex-M3, -O2 */
+#define RUKVETTA_ACCEPT_STACK 240
+#define RUKVETTA_ACCEPT_STACK_PROVED 240
+#define RUKVETTA_NEST_STACK 10728
+#define RUKVETTA_NEST_STACK_PROVED 137224
+#elif defined(__ARM_ARCH_7EM__) /* Cortex-M4, -O2 */
+#define RUKVETTA_ACCEPT_STACK 240
+#define RUKVETTA_ACCEPT_STACK_PROVED 240
+#define RUKVETTA_NEST_STACK 10728
+#define RUKVETTA_NEST_STACK_PROVED 137216
+#elif defined(__ARM_ARCH_8M_MAIN__) /* Cortex-M33, -O2 */
+#define RUKVETTA_ACCEPT_STACK 240
+#define RUKVETTA_ACCEPT_STACK_PROVED 240
+#define RUKVETTA_NEST_STACK 10728
+#define RUKVETTA_NEST_STACK_PROVED 137216
+#elif defined(__x86_64__) /* x86-64, as rt compiles it */
+#define RUKVETTA_ACCEPT_STACK 400
+#define RUKVETTA_ACCEPT_STACK_PROVED 400
+#define RUKVETTA_NEST_STACK 10224
+#define RUKVETTA_NEST_STACK_PROVED 147632
+#endif
+/* end */
 
 /* How many a record may have. */
 #define RUKVETTA_MOST_REGIONS 32
@@ -144,7 +182,7 @@ enum rukvetta_condition {
  * they were. After another the store's W words stand in front, and of the others only words[RUKVETTA_RECORD_WORDS] to
  * words[RUKVETTA_NESTING_FROM - 1] may have changed; after an answer of 0 too.
  */
-uint32_t rukvetta_accept(const uint8_t *bytes, size_t length, uint16_t *words);
+uint32_t rukvetta_accept(const uint8_t *bytes, uint64_t length, uint16_t *words);
 
 /*
  * Nests the record of a store. Below 2^32: the number n of the sheet's words, which now are out[0] to out[n - 1];
@@ -154,7 +192,7 @@ uint32_t rukvetta_accept(const uint8_t *bytes, size_t length, uint16_t *words);
  * words[RUKVETTA_NESTING_FROM] are, the record in front; from there on the words are nesting's own and may hold
  * anything. Refusal 10 comes last: a store that is refused with it has a sheet if more words are lent.
  */
-uint64_t rukvetta_nest(const uint8_t *bytes, size_t length, uint16_t *words, uint32_t *out, size_t lent);
+uint64_t rukvetta_nest(const uint8_t *bytes, uint64_t length, uint16_t *words, uint32_t *out, uint64_t lent);
 
 /* The number and the word of a refusal; the number is 0 where the answer is none. */
 static inline unsigned rukvetta_accept_number(uint32_t answer) { return (unsigned)(answer >> 16); }
