@@ -172,6 +172,7 @@ enum rukvetta_condition {
 };
 
 #define RUKVETTA_HEAD_WORDS 4
+#define RUKVETTA_VALUE_WORDS 3
 #define RUKVETTA_TO_RETURN 65535
 
 /*

@@ -47,8 +47,6 @@ enum rukvetta_step {
     RUKVETTA_DAMAGED    /* what is left is none: a list is longer than the words, or a word is no lead, kind or condition */
 };
 
-#define RUKVETTA_VALUE_WORDS 3
-
 /* The word at the front, which then is passed; 0, and `good` is 0, where there is none. */
 static inline uint32_t rukvetta_next_word(struct rukvetta_words *rest, int *good)
 {

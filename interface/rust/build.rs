@@ -1,17 +1,24 @@
-// Where librukvetta.a is: the folder that RUKVETTA_LIBRARY names, else target/interface of the repository. How long the
-// lent arrays are is taken from the header beside it, so that they are as long as the library takes them to be.
-use std::path::{Path, PathBuf};
+// Where librukvetta.a is: the folder that RUKVETTA_LIBRARY names, else target/interface of the repository. All numbers are taken
+// from the header beside it, so that the lent arrays are as long as the library takes them to be.
+use std::path::PathBuf;
 
 fn fail(sentence: String) -> ! {
     println!("cargo:warning={sentence}");
     std::process::exit(1);
 }
 
-/// The number that a header defines.
-fn number(header: &Path, text: &str, name: &str) -> usize {
-    let lead = format!("#define RUKVETTA_{name} ");
-    let found = text.lines().find_map(|line| line.strip_prefix(&lead)?.split_whitespace().next()?.parse().ok());
-    found.unwrap_or_else(|| fail(format!("{} has no number RUKVETTA_{name}", header.display())))
+/// The numbers that a header defines, or has in an enum: names without their front, and their digits.
+fn numbers(text: &str) -> Vec<(String, String)> {
+    let mut found = Vec::new();
+    for piece in text.split("RUKVETTA_").skip(1) {
+        let name: String = piece.chars().take_while(|letter| letter.is_ascii_uppercase() || *letter == '_').collect();
+        let rest = &piece[name.len()..];
+        let digits: String = rest.trim_start_matches([' ', '=']).chars().take_while(char::is_ascii_digit).collect();
+        if rest.starts_with(' ') && !digits.is_empty() && !name.contains("STACK") {
+            found.push((name, digits));
+        }
+    }
+    found
 }
 
 fn main() {
@@ -30,9 +37,8 @@ fn main() {
     let header = folder.join("rukvetta.h");
     let text = std::fs::read_to_string(&header).unwrap_or_else(|error| fail(format!("{}: {error}", header.display())));
     let out = PathBuf::from(std::env::var_os("OUT_DIR").expect("cargo sets it"));
-    for name in ["WORDS", "USUAL_LENT"] {
-        std::fs::write(out.join(name), number(&header, &text, name).to_string()).expect("cargo's folder can be written");
-    }
+    let lines: String = numbers(&text).iter().map(|(name, digits)| format!("pub const {name}: u32 = {digits};\n")).collect();
+    std::fs::write(out.join("numbers.rs"), lines).expect("cargo's folder can be written");
     println!("cargo:rustc-link-search=native={}", folder.display());
     println!("cargo:rustc-link-lib=static=rukvetta");
 }

@@ -1,6 +1,9 @@
 //! A sheet's words, and the text that the program `nest` prints of them.
 use core::fmt;
 
+use crate::lines::Lines;
+use crate::numbers;
+
 /// How far a record was nested.
 #[derive(Clone, Copy, Debug, PartialEq, Eq)]
 pub enum Outcome {
@@ -33,9 +36,9 @@ impl<'a> Sheet<'a> {
     /// How far it was nested.
     pub fn outcome(self) -> Outcome {
         match self.words[0] {
-            0 => Outcome::Untouched,
-            1 => Outcome::Whole,
-            2 => Outcome::Closed,
+            numbers::UNTOUCHED => Outcome::Untouched,
+            numbers::WHOLE => Outcome::Whole,
+            numbers::CLOSED => Outcome::Closed,
             _ => Outcome::Leftover,
         }
     }
@@ -57,6 +60,11 @@ impl<'a> Sheet<'a> {
     pub fn twice(self) -> bool {
         self.words[3] != 0
     }
+
+    /// The lines behind the first, in the sheet's order.
+    pub fn lines(self) -> Lines<'a> {
+        Lines::new(&self.words[numbers::HEAD_WORDS as usize..])
+    }
 }
 
 impl fmt::Display for Sheet<'_> {
@@ -72,127 +80,10 @@ impl fmt::Display for Sheet<'_> {
             Some(figure) => write!(to, "{figure}")?,
             None => write!(to, "-")?,
         }
-        writeln!(to, " attempts {} twice {}", self.attempts(), self.words[3])?;
-        let mut rest = Words { words: &self.words[4..] };
-        while !rest.words.is_empty() {
-            rest.line(to)?;
+        writeln!(to, " attempts {} twice {}", self.attempts(), u32::from(self.twice()))?;
+        for line in self.lines() {
+            writeln!(to, "{line}")?;
         }
         Ok(())
-    }
-}
-
-/// The words not yet printed.
-struct Words<'a> {
-    words: &'a [u32],
-}
-
-impl Words<'_> {
-    fn next(&mut self) -> u32 {
-        let (first, rest) = self.words.split_first().expect("a sheet's lists are as long as they say");
-        self.words = rest;
-        *first
-    }
-
-    fn line(&mut self, to: &mut fmt::Formatter<'_>) -> fmt::Result {
-        let (lead, number) = (self.next(), self.next());
-        let name = ["region", "block", "select", "loop", "exit", "defer"][lead as usize];
-        write!(to, "{name} {number} ")?;
-        match lead {
-            0 => {
-                self.list(to, "in ", Words::number)?;
-                self.list(to, " kids ", Words::number)?;
-                self.list(to, " out ", Words::value)?;
-            }
-            1 => self.list(to, "", Words::item)?,
-            2 => {
-                write!(to, "{} ", ["bool", "num"][self.next() as usize])?;
-                self.value(to)?;
-                self.list(to, " cases ", Words::number)?;
-                self.list(to, " out ", Words::number)?;
-            }
-            3 => {
-                self.list(to, "in ", Words::value)?;
-                write!(to, " body {} repeat ", self.next())?;
-                self.value(to)?;
-            }
-            4 => {
-                write!(to, "{} ", self.next())?;
-                self.list(to, "in ", Words::value)?;
-            }
-            _ => {
-                match self.next() {
-                    65535 => write!(to, "to return")?,
-                    target => write!(to, "to {target}")?,
-                }
-                write!(to, " count {}", self.next())?;
-                self.list(to, " in ", Words::value)?;
-                write!(to, " if ")?;
-                self.condition(to)?;
-            }
-        }
-        writeln!(to)
-    }
-
-    /// What stands in front, and the items joined by commas, `-` if there are none.
-    fn list<F>(&mut self, to: &mut fmt::Formatter<'_>, front: &str, print: F) -> fmt::Result
-    where
-        F: Fn(&mut Self, &mut fmt::Formatter<'_>) -> fmt::Result,
-    {
-        write!(to, "{front}")?;
-        let count = self.next();
-        if count == 0 {
-            return write!(to, "-");
-        }
-        for place in 0..count {
-            if place > 0 {
-                write!(to, ",")?;
-            }
-            print(self, to)?;
-        }
-        Ok(())
-    }
-
-    fn number(&mut self, to: &mut fmt::Formatter<'_>) -> fmt::Result {
-        write!(to, "{}", self.next())
-    }
-
-    fn value(&mut self, to: &mut fmt::Formatter<'_>) -> fmt::Result {
-        match (self.next(), self.next(), self.next()) {
-            (0, _, index) => write!(to, "c{index}"),
-            (1, region, index) => write!(to, "i{region}.{index}"),
-            (2, region, index) => write!(to, "d{region}.{index}"),
-            (3, node, index) => write!(to, "n{node}.{index}"),
-            (4, _, 0) => write!(to, "false"),
-            (4, _, _) => write!(to, "true"),
-            (_, _, index) => write!(to, "undef{index}"),
-        }
-    }
-
-    fn item(&mut self, to: &mut fmt::Formatter<'_>) -> fmt::Result {
-        write!(to, "{}.{}/{}/{}", self.next(), self.next(), self.next(), self.next())?;
-        self.list(to, "/", Words::value)
-    }
-
-    fn condition(&mut self, to: &mut fmt::Formatter<'_>) -> fmt::Result {
-        match self.next() {
-            1 => write!(to, "t"),
-            2 => write!(to, "f"),
-            3 => write!(to, "u"),
-            _ => {
-                write!(to, "m{}", self.next())?;
-                self.parts(to)
-            }
-        }
-    }
-
-    fn parts(&mut self, to: &mut fmt::Formatter<'_>) -> fmt::Result {
-        write!(to, "[")?;
-        for place in 0..self.next() {
-            if place > 0 {
-                write!(to, ",")?;
-            }
-            self.condition(to)?;
-        }
-        write!(to, "]")
     }
 }
