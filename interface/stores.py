@@ -5,6 +5,8 @@ The first store of each refusal, and of each outcome with each `twice`; and ever
 
 import pathlib
 import sys
+from collections.abc import Iterator
+from typing import NoReturn
 
 ROOT = pathlib.Path(__file__).resolve().parents[1]
 sys.path.insert(0, str(ROOT / "beside"))
@@ -12,8 +14,10 @@ sys.path.insert(0, str(ROOT / "beside"))
 from generate.vectors import read_vectors  # noqa: E402  (found by the line above)
 
 
-def chosen():
-    seen, number = set(), 0
+def chosen() -> Iterator[bytes]:
+    """The stores, in the order of the lists."""
+    seen: set[tuple[str, ...]] = set()
+    number = 0
     for name in "sheets", "full":
         for store, answer in read_vectors(ROOT / "beside" / "lists" / f"{name}.vectors"):
             words = answer.split("\n")[0].split()
@@ -24,12 +28,12 @@ def chosen():
             number += 1
 
 
-def refuse(sentence):
+def refuse(sentence: str) -> NoReturn:
     print(f"interface/stores.py: {sentence}", file=sys.stderr)
     sys.exit(2)
 
 
-def main(folder):
+def main(folder: pathlib.Path) -> None:
     for number, store in enumerate(chosen()):
         (folder / f"{number:03}.store").write_bytes(store)
 

@@ -1,6 +1,6 @@
 """Every store of the lists that has a sheet's text for its answer, for interface/test: python3 interface/texts.py FOLDER
 
-Writes FOLDER/packed, the stores as interface/sheet_text.c reads them, and FOLDER/texts, what it must print.
+Writes FOLDER/packed, the stores as interface/printed.c reads them, and FOLDER/texts, what it must print.
 """
 
 import pathlib

@@ -62,8 +62,8 @@ class Install(Folder):
         self.assertEqual(self.run_it(program, "report", source, "-o", os.path.join(self.folder, "p.html"), **here), (0, ""))
         self.assertEqual(self.run_it(program, "check", CATALOGUE, **here)[0], 0)
         installed = all_files(self.prefix)
-        for name in ("bin/nest", "bin/show", "lib/librukvetta.a", "include/rukvetta.h", "lib/pkgconfig/rukvetta.pc",
-                     "share/doc/rukvetta/NOTICE", "share/man/man1/rukvetta.1", "share/man/man1/nest.1", "share/man/man3/rukvetta_nest.3"):
+        for name in ("bin/nest", "bin/show", "lib/librukvetta.a", "include/rukvetta.h", "include/rukvetta_sheet.h",
+                     "lib/pkgconfig/rukvetta.pc", "share/doc/rukvetta/NOTICE", "share/man/man1/rukvetta.1", "share/man/man1/nest.1", "share/man/man3/rukvetta_nest.3"):
             self.assertIn(name, installed)
         for name in "LICENSE-MIT", "LICENSE-APACHE":
             self.assertEqual(f"share/doc/rukvetta/{name}" in installed, os.path.exists(os.path.join(ROOT, name)))
@@ -84,6 +84,8 @@ class Install(Folder):
         self.assertEqual(self.run_it("cc", "-std=c99", example, *flags.split(), "-o", "example"), (0, ""))
         status, said = self.run_it("./example", os.path.join(ROOT, "docs", "example.store"))
         self.assertEqual(status, 0, said)
+        put(os.path.join(self.folder, "sheet.c"), b"#include <rukvetta_sheet.h>\nint main(void) { return 0; }\n")
+        self.assertEqual(self.run_it("cc", "-std=c99", "sheet.c", *flags.split(), "-o", "sheet"), (0, ""))
 
     def test_what_was_there_stays(self):
         os.makedirs(os.path.join(self.prefix, "bin"))
@@ -167,6 +169,13 @@ class Manual(unittest.TestCase):
         for name in functions:
             self.assertRegex(names, rf"\b{name}\b")
         page = read(MAN, "rukvetta.h.3")
+        for name in re.findall(r"#define (RUKVETTA_\w+_STACK|RUKVETTA_VERSION\w*|RUKVETTA_STATE_BYTES) ", header):
+            self.assertRegex(page, rf"\b{name}\b")
+        cursor = read(ROOT, "interface", "rukvetta_sheet.h")
+        functions = set(re.findall(r"\brukvetta_\w+(?= \(\))", page))
+        self.assertGreaterEqual(len(functions), 6)
+        for name in functions:
+            self.assertIn(f" {name}(", cursor)
         refusals = re.findall(r"(RUKVETTA_\w+) = \d", re.findall(r"enum rukvetta_refusal \{(.*?)\}", header, re.S)[0])
         self.assertEqual(len(refusals), 11)
         for name in re.findall(r"enum (rukvetta_\w+)", header) + refusals:

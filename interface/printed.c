@@ -1,8 +1,8 @@
 /*
  * Prints the text of each sheet, as the program `nest` does, by the cursor of rukvetta_sheet.h: for interface/test.
  *
- *     sheet_text < PACKED           each store led by 3 bytes of its length (bench/packed.py); its sheet's text or its refusal, then a dot
- *     sheet_text cut < PACKED       reads each sheet cut off behind each of its words, and with each word changed: never beyond the end
+ *     printed < PACKED           each store led by 3 bytes of its length (bench/packed.py); its sheet's text or its refusal, then a dot
+ *     printed cut < PACKED       reads each sheet cut off behind each of its words, and with each word changed: never beyond the end
  *
  * Status: 0 good, 1 the cursor calls a sheet damaged or a cut one whole, 2 the input is at fault.
  */
@@ -19,7 +19,7 @@ static uint32_t sheet[RUKVETTA_USUAL_LENT];
 
 static void wrong(const char *sentence)
 {
-    fprintf(stderr, "sheet_text: %s\n", sentence);
+    fprintf(stderr, "printed: %s\n", sentence);
     exit(1);
 }
 
