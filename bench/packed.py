@@ -8,6 +8,7 @@ import sys
 from collections.abc import Iterable, Iterator
 
 END = b"\xff\xff\xff"  # of a list
+FLASH = 896 * 1024  # what interface/board/board.ld has for a list
 ROOT = pathlib.Path(__file__).resolve().parents[1]
 sys.path.insert(0, str(ROOT / "beside"))
 
@@ -19,7 +20,7 @@ def packed(store: bytes) -> bytes:
     return len(store).to_bytes(3, "little") + store
 
 
-def lists(stores: Iterable[bytes], most: int) -> list[bytes]:
+def lists(stores: Iterable[bytes], most: int = FLASH) -> list[bytes]:
     """The stores as lists for the board, each of at most so many bytes, its end included (interface/board/board.h)."""
     made = [b""]
     for store in stores:

@@ -4,7 +4,6 @@ import pathlib
 import sys
 from typing import NoReturn
 
-FLASH = 896 * 1024
 ROOT = pathlib.Path(__file__).resolve().parents[2]
 sys.path.insert(0, str(ROOT / "bench"))
 
@@ -18,7 +17,7 @@ def refuse(sentence: str) -> NoReturn:
 
 def main(out: str, *files: str) -> None:
     first = (ROOT / "crates/show/stdin").read_bytes()
-    for number, whole in enumerate(lists([first, *stores(["chains", *files])], FLASH)):
+    for number, whole in enumerate(lists([first, *stores(["chains", *files])])):
         (pathlib.Path(out) / f"list.{number:02}").write_bytes(whole)
 
 

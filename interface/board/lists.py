@@ -14,7 +14,6 @@ sys.path[:0] = [str(ROOT / "bench"), str(ROOT / "beside")]
 from generate.vectors import all_vectors  # noqa: E402  (found by the line above)
 from packed import lists  # noqa: E402
 
-FLASH = 896 * 1024  # what board.ld has for a list
 NAMES = "stores", "sheets", "full"
 
 
@@ -33,5 +32,5 @@ if __name__ == "__main__":
         print("lists.py: usage: python3 interface/board/lists.py FOLDER [STORE], FOLDER an existing one", file=sys.stderr)
         sys.exit(2)
     stores = every() if len(sys.argv) == 2 else [pathlib.Path(sys.argv[2]).read_bytes()]
-    for place, whole in enumerate(lists(stores, FLASH)):
+    for place, whole in enumerate(lists(stores)):
         (pathlib.Path(sys.argv[1]) / f"list.{place:02}").write_bytes(whole)

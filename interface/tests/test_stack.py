@@ -152,7 +152,12 @@ class Bounds(unittest.TestCase):
 
 
 class Header(unittest.TestCase):
-    """The lines of rukvetta.h."""
+    """The lines of rukvetta.h, and its words on them."""
+
+    def test_words(self) -> None:
+        """Header and page say how much of it is the C library's."""
+        self.assertIn(f"; {bound.OUTSIDE} of them stand for memset", (FOLDER / "rukvetta.h").read_text())
+        self.assertIn(f" {bound.OUTSIDE} bytes for memset", (FOLDER.parent / "docs" / "STACK.md").read_text())
 
     BOUNDS = {"cortex-m3": {"rukvetta_nest": 10}}
     PROOF = {"cortex-m3": {"rukvetta_nest": 20}}

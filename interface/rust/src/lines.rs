@@ -25,6 +25,15 @@ pub enum Target {
     Return,
 }
 
+impl fmt::Display for Target {
+    fn fmt(&self, to: &mut fmt::Formatter<'_>) -> fmt::Result {
+        match self {
+            Target::Region(region) => write!(to, "{region}"),
+            Target::Return => write!(to, "return"),
+        }
+    }
+}
+
 /// One line. `Display` is as on the printed sheet.
 #[derive(Clone, Debug)]
 pub enum Line<'a> {
@@ -157,10 +166,7 @@ impl fmt::Display for Line<'_> {
                 list(to, values.clone())
             }
             Line::Defer { region, target, edges, values, condition } => {
-                match target {
-                    Target::Return => write!(to, "defer {region} to return count {edges} in ")?,
-                    Target::Region(to_region) => write!(to, "defer {region} to {to_region} count {edges} in ")?,
-                }
+                write!(to, "defer {region} to {target} count {edges} in ")?;
                 list(to, values.clone())?;
                 write!(to, " if {condition}")
             }

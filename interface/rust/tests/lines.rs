@@ -69,9 +69,7 @@ fn line(to: &mut Vec<u32>, from: Line<'_>) {
             values(to, handed);
         }
         Line::Defer { region, target, edges, values: passed, condition: when } => {
-            to.extend([5, region]);
-            to.push(if let Target::Region(target) = target { target } else { 65535 });
-            to.push(edges);
+            to.extend([5, region, if let Target::Region(target) = target { target } else { 65535 }, edges]);
             values(to, passed);
             condition(to, &when);
         }
