@@ -56,7 +56,7 @@ class Graph:
         return found
 
     def own(self, name: str) -> tuple[Need, int]:
-        """What a function, or all of its cycle, needs itself; and what the last calls of the cycle need, behind which nothing comes."""
+        """What a function, or all of its cycle, needs itself; and what the last calls of the cycle need, below which there is no cycle."""
         cycle = self.cycles[name]
         if not cycle:
             return Need(self.functions[name].frame), 0
@@ -80,9 +80,14 @@ class Graph:
             targets = {target for member in cycle for target in self.functions[member].calls} - set(cycle)
             found = {own.then(Need(last))}
             for target in targets:
-                found |= {own.then(below) for below in self.outside(name, target) or self.needs(target)}
+                behind = last if self.plain(target) else 0
+                found |= {own.then(Need(behind)).then(below) for below in self.outside(name, target) or self.needs(target)}
             self.known[name] = {need for need in found if not any(less(need, other) for other in found)}
         return self.known[name]
+
+    def plain(self, name: str) -> bool:
+        """Whether it is in no cycle and calls none."""
+        return name not in self.functions or not any(self.cycles[other] for other in self.reached(name) | {name})
 
     def outside(self, name: str, target: str) -> set[Need]:
         """What a function of the C library needs; none for one of ours."""

@@ -2,7 +2,7 @@
 
 Each such function has a row; a cycle with a function that has none is not bounded. A row says how much of a budget one call uses up:
 of `budget` units each pays for `each` calls. Calls of one budget that stand below one another share it. `besides` calls cost nothing;
-`last` calls may stand at the end, and call none.
+`last` calls may stand at the end, and call no other cycle.
 """
 
 import pathlib

@@ -116,9 +116,21 @@ class Bounds(unittest.TestCase):
     """The deepest way."""
 
     def test_cycle(self) -> None:
-        """Two calls for each of ten regions and three besides; behind these the last, or the C library."""
+        """Two calls for each of ten regions and three besides; behind these the last, and the C library."""
         found = bound.bounds(read(ARM, ARM_FRAMES, "cortex-m3"), DEPTHS)
-        self.assertEqual(found, {"door": 24 + 16 * (2 * 10 + 3) + max(16, bound.OUTSIDE)})
+        self.assertEqual(found, {"door": 24 + 16 * (2 * 10 + 3) + 16 + bound.OUTSIDE})
+
+    def test_last(self) -> None:
+        """The last call of a cycle calls what is in no cycle; a cycle below is called by one before it."""
+        functions = {
+            "door": assembly.Function("door", True, [], 8, {"one"}),
+            "one": assembly.Function("one", False, [], 100, {"one", "plain", "two"}),
+            "plain": assembly.Function("plain", False, [], 20, set()),
+            "two": assembly.Function("two", False, [], 30, {"two"}),
+        }
+        for calls, expected in ((1, 8 + 5 * 100 + 100 + 20), (9, 8 + 5 * 100 + 9 * 30)):
+            depths = Depths({"a": 5}, {"one": Row("a", 1, last=1), "two": Row("a", 0, besides=calls)})
+            self.assertEqual(bound.bounds(functions, depths), {"door": expected})
 
     def test_shared(self) -> None:
         """Two cycles on one way share a budget: each region counts for the dearer; with two budgets they add up."""
