@@ -12,42 +12,15 @@ enum { BLANK = 0xa5a5 };
 static uint16_t words[WORDS];
 static uint32_t out[ROOM];
 
-#ifdef __arm__
-typedef uint32_t cell;
-enum { PAINT = 0x5a5a5a5a };
-extern cell stack_foot[];
-#define SP "mov %0, sp"
-#else
-typedef uint64_t cell;
-#define PAINT 0x5a5a5a5a5a5a5a5a
-static cell *stack_foot;
-#define SP "mov %%rsp, %0"
-#endif
-
 static uint32_t took[3], deep[3];
 
-// Paints the stack below, calls, and looks how far the paint is gone.
-#define MEASURED(k, call)                                                        \
-    do {                                                                         \
-        cell *sp, *p;                                                            \
-        __asm__ volatile(SP : "=r"(sp));                                         \
-        for (p = stack_foot; p < sp - 32; p++) *(volatile cell *)p = PAINT;      \
-        uint32_t began = clock_now();                                            \
-        call;                                                                    \
-        took[k] = instructions_since(began);                                     \
-        for (p = stack_foot; p < sp && *(volatile cell *)p == (cell)PAINT;) p++; \
-        deep[k] = sizeof(cell) * (sp - p);                                       \
-    } while (0)
+#define MEASURED(k, call) DEEP(deep[k], uint32_t began = clock_now(); call; took[k] = instructions_since(began))
 
 static uint32_t digest;
 static void digested(uint32_t n) { digest = (digest ^ n) * 16777619u; }
 
 int main(void) {
     begin();
-#ifndef __arm__
-    cell here;
-    stack_foot = &here - 8192;
-#endif
     for (const uint8_t *at = list, *bytes;;) {
         uint32_t length = length_at(at), refused, outcome, sheet;
         if (length == END_OF_LIST) return 0;

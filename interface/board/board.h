@@ -1,5 +1,5 @@
-// The emulated board: text and the end of the run by semihosting, a clock of instructions, and a list of stores in flash. On x86-64 the
-// same names, so that one file runs on both: the list is read from standard input, and there is no clock.
+// The emulated board: text and the end of the run by semihosting, a clock of instructions, how deep the stack went, and a list of stores in
+// flash. On x86-64 the same names, so that one file runs on both: the list is read from standard input, and there is no clock.
 // A list: for each store 3 bytes of length, then its bytes, packed, so that they begin at any address; 0xffffff ends it.
 #include <stdint.h>
 enum { END_OF_LIST = 0xffffff };
@@ -7,6 +7,9 @@ enum { END_OF_LIST = 0xffffff };
 #ifdef __arm__
 #define REGISTER(place) (*(volatile uint32_t *)(place))
 extern const uint8_t list[];
+typedef uint32_t cell;
+extern cell stack_foot[];
+#define STACK_POINTER "mov %0, sp"
 
 static inline void host(unsigned what, const void *with) {
     register unsigned r0 __asm__("r0") = what;
@@ -32,14 +35,31 @@ static inline uint32_t instructions_since(uint32_t began) { return ((clock_now()
 #include <stdio.h>
 #include <stdlib.h>
 static uint8_t list[1 << 25];
+typedef uint64_t cell;
+static cell *stack_foot;
+#define STACK_POINTER "mov %%rsp, %0"
 
 static inline void put(const char *text) { fputs(text, stdout); }
 static inline void begin(void) {
+    cell here;
+    stack_foot = &here - 8192;
     if (fread(list, 1, sizeof list, stdin) == 0) exit(1);
 }
 static inline uint32_t clock_now(void) { return 0; }
 static inline uint32_t instructions_since(uint32_t began) { return began; }
 #endif
+
+// Paints the stack below, calls, and looks how far the paint is gone: so many bytes.
+#define PAINT ((cell)0x5a5a5a5a5a5a5a5a)
+#define DEEP(bytes, call)                                                    \
+    do {                                                                     \
+        cell *sp, *p;                                                        \
+        __asm__ volatile(STACK_POINTER : "=r"(sp));                          \
+        for (p = stack_foot; p < sp - 32; p++) *(volatile cell *)p = PAINT;  \
+        call;                                                                \
+        for (p = stack_foot; p < sp && *(volatile cell *)p == PAINT;) p++;   \
+        bytes = sizeof(cell) * (sp - p);                                     \
+    } while (0)
 
 static inline void put_number(uint32_t n, char end) {
     char text[12], *at = text + 11;

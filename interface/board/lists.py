@@ -1,7 +1,7 @@
 """Every store of the lists, packed for the board: python3 interface/board/lists.py FOLDER [STORE] writes FOLDER/list.00 and on.
 
 With a STORE it is that alone. The lists are stores, sheets and full of beside/lists, with the vectors that are wrong on purpose: their
-stores are as good as others.
+stores are as good as others. Behind them come the four chains of 32 regions that nest deepest.
 """
 
 import pathlib
@@ -11,7 +11,8 @@ from collections.abc import Iterator
 ROOT = pathlib.Path(__file__).resolve().parents[2]
 sys.path[:0] = [str(ROOT / "bench"), str(ROOT / "beside")]
 
-from generate.vectors import all_vectors  # noqa: E402  (found by the line above)
+from generate.large import chains  # noqa: E402  (found by the line above)
+from generate.vectors import all_vectors  # noqa: E402
 from packed import lists  # noqa: E402
 
 NAMES = "stores", "sheets", "full"
@@ -22,6 +23,7 @@ def every() -> Iterator[bytes]:
     for name in NAMES:
         for _, store, _ in all_vectors(ROOT / "beside" / "lists" / f"{name}.vectors"):
             yield store
+    yield from chains()
 
 
 if __name__ == "__main__":
