@@ -39,21 +39,22 @@ function viewer(scroll, svg) {
 
 const TOOLS = { "+": "larger (+)", "−": "smaller (-)", fit: "all of it (f)", "1:1": "in its own size (0)" };
 
-// Dragging moves the picture; a click that ends a drag follows no link.
+// Dragging moves the picture; a click that ends a drag follows no link. The window is listened to only while a drag lasts, so that
+// a picture which is replaced leaves nothing behind.
 function draggable(scroll) {
   let from = null, moved = false;
-  scroll.addEventListener("pointerdown", event => {
-    if (event.button === 0 && event.pointerType === "mouse") {
-      const at = [event.clientX, event.clientY];
-      [from, moved] = [{ x: at[0] + scroll.scrollLeft, y: at[1] + scroll.scrollTop, at }, false];
-    }
-  });
-  window.addEventListener("pointermove", event => {
-    if (!from) return;
+  const move = event => {
     moved = moved || Math.hypot(event.clientX - from.at[0], event.clientY - from.at[1]) > 4;
     if (moved) [scroll.scrollLeft, scroll.scrollTop] = [from.x - event.clientX, from.y - event.clientY];
+  };
+  const end = () => window.removeEventListener("pointermove", move);
+  scroll.addEventListener("pointerdown", event => {
+    if (event.button !== 0 || event.pointerType !== "mouse") return;
+    const at = [event.clientX, event.clientY];
+    [from, moved] = [{ x: at[0] + scroll.scrollLeft, y: at[1] + scroll.scrollTop, at }, false];
+    window.addEventListener("pointermove", move);
+    window.addEventListener("pointerup", end, { once: true });
   });
-  window.addEventListener("pointerup", () => { from = null; });
   scroll.addEventListener("click", event => { if (moved) event.preventDefault(); }, true);
   scroll.addEventListener("dragstart", event => event.preventDefault());
 }
