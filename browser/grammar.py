@@ -5,7 +5,6 @@ from __future__ import annotations
 import re
 from typing import Any
 
-END = "$END"
 LETTERS = r"\p{L}\p{N}_"  # what Python's \w stands for, in a class of a JavaScript pattern
 
 
@@ -39,15 +38,28 @@ def rule_table(rule: Any) -> dict[str, Any]:
     }
 
 
-def state_tables(table: Any) -> tuple[list[dict[str, int]], list[dict[str, Any]]]:
+def numbered(table: Any, start: int) -> list[int]:
+    """The states in an order of their own, from the start along their symbols: lark's own numbers differ from run to run."""
+    found = [start]
+    for state in found:
+        reached = (argument for _, (action, argument) in sorted(table.states[state].items(), key=first) if action.name == "Shift")
+        found += [argument for argument in dict.fromkeys(reached) if argument not in found]
+    return found
+
+
+def first(pair: tuple[str, Any]) -> str:
+    return pair[0]
+
+
+def state_tables(table: Any, order: list[int]) -> tuple[list[dict[str, int]], list[dict[str, Any]]]:
     """For each state what each symbol does: the number of the next state, or minus one minus the number of a rule; and the rules."""
-    rules: dict[Any, int] = {}
+    places, rules = {state: place for place, state in enumerate(order)}, {}
     states = []
-    for number in range(len(table.states)):
+    for state in order:
         actions = {}
-        for symbol, (action, argument) in table.states[number].items():
+        for symbol, (action, argument) in sorted(table.states[state].items(), key=first):
             shifts = action.name == "Shift"
-            actions[symbol] = argument if shifts else -1 - rules.setdefault(argument, len(rules))
+            actions[symbol] = places[argument] if shifts else -1 - rules.setdefault(argument, len(rules))
         states.append(actions)
     return states, [rule_table(rule) for rule in rules]
 
@@ -57,13 +69,14 @@ def tables(lark: Any) -> dict[str, Any]:
     lexer, table = lark.parser.lexer, lark.parser.parser._parse_table
     terminals = lexer.scanner.terminals  # in the order in which they are tried
     words = {name: {one.pattern.value: one.name for one in callback.scanner.terminals} for name, callback in lexer.callback.items()}
-    states, rules = state_tables(table)
+    order = numbered(table, table.start_states["start"])
+    states, rules = state_tables(table, order)
     return {
         "terminals": [[one.name, pattern_text(one.pattern)] for one in terminals],
         "words": words,
         "ignored": sorted(lexer.ignore_types),
         "states": states,
         "rules": rules,
-        "start": table.start_states["start"],
-        "end": table.end_states["start"],
+        "start": 0,
+        "end": order.index(table.end_states["start"]),
     }

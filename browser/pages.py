@@ -40,7 +40,8 @@ def assembler_script() -> str:
 
 def catalogue() -> dict[str, str]:
     """The workbench's routines by their names."""
-    return {path.stem: path.read_text(encoding="utf-8") for path in sorted((ROOT / "workbench" / "catalogue").glob("*.routine"))}
+    found = {path.stem: path.read_text(encoding="utf-8") for path in (ROOT / "workbench" / "catalogue").glob("*.routine")}
+    return dict(sorted(found.items()))
 
 
 def numbers() -> dict[str, int]:

@@ -7,7 +7,6 @@ class Editor {
     [this.area, this.gutter, this.marks] = ["textarea", ".gutter", ".marks"].map(name => place.querySelector(name));
     this.area.addEventListener("input", () => changed());
     this.area.addEventListener("scroll", () => this.follow());
-    this.faults = [];
   }
 
   get text() {
@@ -27,9 +26,10 @@ class Editor {
 
   // Draw the line numbers and the marks of these faults.
   mark(faults) {
-    const lines = this.text.split("\n"), wrong = Map.groupBy(faults, fault => fault.line);
-    this.gutter.replaceChildren(...lines.map((_, k) => part("span", wrong.has(k + 1) ? "wrong" : "", `${k + 1}\n`)));
-    this.marks.replaceChildren(...lines.flatMap((line, k) => [...markedLine(line, wrong.get(k + 1) || []), "\n"]));
+    const lines = this.text.split("\n"), wrong = lines.map(() => []);
+    faults.forEach(fault => wrong[fault.line - 1] && wrong[fault.line - 1].push(fault));
+    this.gutter.replaceChildren(...lines.map((_, k) => part("span", wrong[k].length ? "wrong" : "", `${k + 1}\n`)));
+    this.marks.replaceChildren(...lines.flatMap((line, k) => [...markedLine(line, wrong[k]), "\n"]));
     this.follow();
   }
 

@@ -1,0 +1,64 @@
+"""browser/build ends with the status that it says, and a module that takes an address as a number is refused."""
+
+import os
+import pathlib
+import subprocess
+import tempfile
+import unittest
+
+from .support import ROOT, needs_browser
+
+BUILD = ROOT / "browser" / "build"
+
+
+class Statuses(unittest.TestCase):
+    def build(self, *arguments: str, path: str | None = None) -> tuple[int, str]:
+        env = {**os.environ, "PATH": path or os.environ["PATH"]}
+        done = subprocess.run([BUILD, *arguments], env=env, capture_output=True, text=True, timeout=60)
+        self.assertNotIn("Traceback", done.stderr)
+        return done.returncode, done.stdout + done.stderr
+
+    def test_help(self) -> None:
+        status, said = self.build("--help")
+        self.assertEqual(status, 0)
+        self.assertIn("Status: 0 the page is made", said)
+
+    def test_wrong_use(self) -> None:
+        for arguments in (), ("page",), ("none/page.html",), ("a.html", "b.html"), ("--nonsense", "a.html"):
+            with self.subTest(arguments=arguments):
+                self.assertEqual(self.build(*arguments)[0], 2)
+
+    @needs_browser
+    def test_missing_programs(self) -> None:
+        with tempfile.TemporaryDirectory() as folder:
+            out = os.path.join(folder, "page.html")
+            self.assertEqual(self.build(out, path=folder), (3, "browser/build: no rt on the path (the Rattle toolchain)\n"))
+            self.assertFalse(os.path.exists(out))
+
+    @needs_browser
+    def test_a_linker_is_needed(self) -> None:
+        """With a toolchain of empty programs beside each other, wasm-ld is what lacks."""
+        with tempfile.TemporaryDirectory() as name:
+            kit = pathlib.Path(name)
+            tools = kit / "on" / os.uname().machine / "toolchain" / "bin"
+            for program in kit / "bin" / "rt", tools / "clang":
+                program.parent.mkdir(parents=True)
+                program.touch(mode=0o755)
+            said = self.build(str(kit / "page.html"), path=str(kit / "bin"))
+            self.assertEqual(said, (3, "browser/build: no wasm-ld on the path (Debian's package lld)\n"))
+
+
+class Module(unittest.TestCase):
+    TEXT = 'target datalayout = "e-m:e"\ntarget triple = "x86_64-unknown-linux-gnu"\nattributes #0 = { nounwind "target-cpu"="x86-64" }\n'
+
+    def test_it_loses_its_processor(self) -> None:
+        from browser.compiled import retargeted
+
+        self.assertEqual(retargeted(self.TEXT), 'target triple = "wasm32-unknown-unknown"\nattributes #0 = { nounwind  }\n')
+
+    def test_an_address_as_a_number(self) -> None:
+        from browser.compiled import Failed, retargeted
+
+        for line in "%1 = ptrtoint ptr %0 to i64", "%1 = inttoptr i64 %0 to ptr", 'attributes #1 = { "target-features"="+sse" }':
+            with self.subTest(line=line), self.assertRaises(Failed):
+                retargeted(self.TEXT + line)
