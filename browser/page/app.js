@@ -20,9 +20,15 @@ function explainedRefusal([number, word], made) {
   return told + ` It is in region ${made ? made.names.regionName(word) : word}` + (region ? `, which begins at line ${region.line}.` : ".");
 }
 
+// A sheet in a few words: its outcome and its figure, or its refusal.
+function stateText({ sheet, refused }) {
+  const [outcome, , figure] = sheet.split("\n")[0].split(" ");
+  return refused ? sheet.trim() : outcome + (figure === "-" ? "" : `, figure ${Number(figure).toLocaleString("en-US")}`);
+}
+
 class Page {
   constructor(library) {
-    [this.library, this.name, this.store, this.waiting, this.kept] = [library, UNNAMED, null, false, ""];
+    [this.library, this.name, this.store, this.waiting, this.kept, this.drawn] = [library, UNNAMED, null, false, "", ""];
     this.editor = new Editor(document.querySelector(".editor"), () => this.changed());
     this.fillCatalogue();
     this.listen();
@@ -70,7 +76,7 @@ class Page {
       if (![...catalogue.options].some(option => option.value === UNNAMED)) catalogue.add(new Option("what I wrote", UNNAMED), 1);
     }
     this.editor.text = text;
-    [this.name, this.taken] = [name, this.editor.text];         // with the line ends that a text area has
+    [this.name, this.taken, this.drawn] = [name, this.editor.text, ""];         // with the line ends that a text area has
     catalogue.value = name === UNNAMED || CATALOGUE[name] === text ? name : "";
   }
 
@@ -119,7 +125,7 @@ class Page {
     this.editor.mark(faults.slice(0, MOST_TOLD));
     const rows = faults.slice(0, MOST_TOLD).map(fault => this.row(fault, `line ${fault.line}, column ${fault.column}: ${fault.message}`));
     if (faults.length > MOST_TOLD) rows.push(part("li", "", `${faults.length - MOST_TOLD} faults more`));
-    this.told(rows, faults.length === 1 ? "1 fault" : `${faults.length} faults`);
+    this.told(rows, faults.length === 1 ? "1 fault" : `${faults.length} faults`, true);
   }
 
   row({ line, column }, text) {
@@ -130,10 +136,10 @@ class Page {
     return item;
   }
 
-  told(rows, state) {
+  told(rows, state, wrong) {
     $("faults").replaceChildren(...rows);
     $("state").textContent = state;
-    $("state").classList.toggle("wrong", rows.length > 0);
+    $("state").classList.toggle("wrong", wrong);
     $("result").classList.toggle("old", !this.store && Boolean($("result").children.length));
     $("save-store").disabled = !this.store;
   }
@@ -141,16 +147,25 @@ class Page {
   // Show what the library answers to a store.
   answer(store, told, made) {
     this.store = store;
-    const explained = told.refused ? explainedRefusal(told.refused, made) : "", views = this.views();
+    const explained = told.refused ? explainedRefusal(told.refused, made) : "";
     const region = told.refused && made && told.refused[0] > 4 && told.refused[0] < 9 ? made.record.regions[told.refused[1]] : null;
     this.editor.mark(region ? [{ line: region.line, column: 1 }] : []);
-    this.told(region ? [this.row({ line: region.line, column: 1 }, `line ${region.line}: ${explained}`)] : [], "no fault");
+    this.told(region ? [this.row({ line: region.line, column: 1 }, `line ${region.line}: ${explained}`)] : [],
+      stateText(told), Boolean(told.refused));
+    this.draw({ ...told, explained }, { title: this.name, words: told.words });
+  }
+
+  // Draw, unless just this is drawn already: a comment that is written changes nothing.
+  draw(texts, options) {
+    const drawn = JSON.stringify([texts, options]), views = this.drawn ? this.views() : [];
+    if (drawn === this.drawn) return;
+    this.drawn = drawn;
     $("result").replaceChildren();
-    drawRoutine($("result"), { ...told, explained }, { title: this.name, words: told.words });
+    drawRoutine($("result"), texts, options);
     this.look(views);
   }
 
-  // How the pictures are zoomed and scrolled, and the same again for new ones.
+  // How the pictures are zoomed and scrolled, and the same again for new ones. Those of another routine begin in the middle.
   views() {
     return [...document.querySelectorAll("#result .scroll")].map(scroll =>
       ({ zoom: scroll.firstChild.style.getPropertyValue("--zoom"), left: scroll.scrollLeft, top: scroll.scrollTop }));
@@ -158,12 +173,12 @@ class Page {
 
   look(views) {
     document.querySelectorAll("#result .scroll").forEach((scroll, k) => {
-      if (!views[k]) return;
-      if (views[k].zoom) {
+      const { zoom, left, top } = views[k] || { left: (scroll.scrollWidth - scroll.clientWidth) / 2, top: 0 };
+      if (zoom) {
         scroll.firstChild.classList.add("zoomed");
-        scroll.firstChild.style.setProperty("--zoom", views[k].zoom);
+        scroll.firstChild.style.setProperty("--zoom", zoom);
       }
-      [scroll.scrollLeft, scroll.scrollTop] = [views[k].left, views[k].top];
+      [scroll.scrollLeft, scroll.scrollTop] = [left, top];
     });
   }
 }

@@ -74,7 +74,8 @@ class AtWork(InBrowser):
             self.assertEqual(self.sheet(), (CATALOGUE / f"{name}.sheet").read_text(encoding="ascii"), name)
             self.assertEqual(self.browser.texts("#result h1"), [name])
             self.assertEqual(self.source(), (CATALOGUE / f"{name}.routine").read_text(encoding="utf-8"))
-            self.assertEqual(self.state(), "no fault")
+            first = self.sheet().partition("\n")[0].partition(" attempts")[0].removesuffix(" figure -")
+            self.assertEqual(self.state().replace(",", ""), first)
 
     def test_writing_changes_nest_and_figure(self) -> None:
         text = (CATALOGUE / "sweep-stepped.routine").read_text(encoding="utf-8")
@@ -105,7 +106,7 @@ class AtWork(InBrowser):
         self.write(text + "%")
         self.assertEqual(self.state(), "1 fault")
         self.write(text)
-        self.assertEqual((self.state(), self.browser.count("main.old"), self.browser.count("#faults li")), ("no fault", 0, 0))
+        self.assertEqual((self.browser.count("#state.wrong"), self.browser.count("main.old"), self.browser.count("#faults li")), (0, 0, 0))
         self.assertEqual(self.sheet(), (CATALOGUE / "case-a.sheet").read_text(encoding="ascii"))
 
     def test_a_store_that_is_dropped(self) -> None:
