@@ -98,8 +98,9 @@ class Page {
     this.answer(bytes, told, null);
   }
 
-  // Typing is answered in the next frame, however many letters came.
+  // Typing is answered in the next frame, however many letters came. A routine of the catalogue that is changed is no longer that one.
   changed() {
+    if ($("catalogue").value) this.name = UNNAMED;
     $("catalogue").value = "";
     if (this.waiting) return;
     this.waiting = true;

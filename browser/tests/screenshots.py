@@ -11,7 +11,7 @@ from .support import Browser, PAGE, ROOT, lacking
 from rukvetta.needs import MISSING, USAGE
 
 CATALOGUE = ROOT / "workbench" / "catalogue"
-WIDE, NARROW = (1360, 880), (390, 1180)
+WIDE, NARROW = (1240, 660), (390, 960)
 WRITE = """const [text, done] = arguments, area = document.getElementById('source');
 area.value = text;
 area.dispatchEvent(new Event('input'));

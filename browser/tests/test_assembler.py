@@ -27,12 +27,14 @@ CHOSEN = (
     b"record test 0xffffffffffffffffffffffffffffffff\nregion a\n    return\n",
     b"record constants " + b",".join(b"x%d : 2" % k for k in range(66)) + b"\nregion a\n    return\n",
     b"record\nregion a\n    " + b"word" * 60 + b"\n    return " + b"word" * 59 + b"wore\n",
-    b"opcode " + b"abcdefghij" * 30 + b" 1 cost 0\nrecord\nregion a\n    " + b"abcdefghij" * 29 + b"abcdefghi\n    return\n",
+    b"opcode x" + b"abcdefghij" * 30 + b" 1 cost 0\nrecord\nregion a\n    y" + b"abcdefghij" * 30 + b"\n    return\n",
     b"record\n" + b"".join(b"region r%d\n    return\n" % k for k in range(35)),
     b"record\nregion a\n" + b"    7 cost 0 (\n" * 300 + b"    return\n",
     b"#" * 262145,
     b"#" * 262144,
     "record\nregion \U0001f600 a\n    retürn\n".encode(),
+    "record\n# \U0001f600 is one letter".encode(),
+    "record # \U0001f600 is one letter ".encode() + b"\xff\nregion a\n    return\n",
     "opcode x\u0301 1\nrecord\nregion a\n    ret.urn\n".encode(),
 )
 

@@ -84,6 +84,7 @@ class AtWork(InBrowser):
         self.write(text.replace("limit 401", "limit 400"))
         figures.append(self.browser.texts("[data-fact=figure] b")[0])
         self.assertEqual(len(set(figures)), 2, figures)
+        self.assertEqual(self.browser.texts("#result h1"), ["my-routine"])
         self.assertEqual(self.browser.count("svg.graph"), 1)
         self.assertEqual(self.browser.count("svg.nest"), 1)
 
