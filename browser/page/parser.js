@@ -41,17 +41,11 @@ function* tokensOf(text) {
   }
 }
 
-// Trees have their first child's place, and end where their last child ends. A container is a part that was taken up into another.
+// A tree stands where its first part does, and ends where its last part ends.
 function place(meta, children) {
-  const places = children.map(child => child && (child.data === undefined ? child : child.meta))
-    .filter(at => at && (at.line !== undefined || at.endLine !== undefined));
-  if (!places.length) return;
-  const first = places[0], last = places[places.length - 1];
-  const start = first.container || { line: first.line, column: first.column };
-  const end = last.containerEnd === undefined ? last.endLine : last.containerEnd;
-  if (meta.line === undefined) Object.assign(meta, { line: start.line, column: start.column });
-  if (meta.endLine === undefined) meta.endLine = end;
-  Object.assign(meta, { container: start, containerEnd: end });
+  const places = children.map(child => child && (child.data === undefined ? child : child.meta)).filter(at => at && at.line !== undefined);
+  if (!places.length || meta.line !== undefined) return;
+  Object.assign(meta, { line: places[0].line, column: places[0].column, endLine: places[places.length - 1].endLine });
 }
 
 function reduced(rule, children) {

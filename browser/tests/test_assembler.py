@@ -30,6 +30,7 @@ CHOSEN = (
     b"opcode x" + b"abcdefghij" * 30 + b" 1 cost 0\nrecord\nregion a\n    y" + b"abcdefghij" * 30 + b"\n    return\n",
     b"record\n" + b"".join(b"region r%d\n    return\n" % k for k in range(35)),
     b"record\nregion a\n" + b"    7 cost 0 (\n" * 300 + b"    return\n",
+    b"record\nregion a\n    select num true to b, c\nregion b\n    branch to a\nregion c\n    branch to a\n",
     b"#" * 262145,
     b"#" * 262144,
     "record\nregion \U0001f600 a\n    retürn\n".encode(),
