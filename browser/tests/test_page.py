@@ -154,7 +154,8 @@ class AtWork(InBrowser):
         zoom = "return document.querySelector('svg.graph').style.getPropertyValue('--zoom')"
         was = self.browser.run(zoom)
         self.assertTrue(was)
-        self.write(text + "\n")
+        self.write(text.replace("limit 201", "limit 202"))
+        self.assertIn("≤ 202 turns", self.browser.texts("svg.graph")[0])
         self.assertEqual(self.browser.run(zoom), was)
 
     def test_downloads(self) -> None:
