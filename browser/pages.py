@@ -19,8 +19,8 @@ from rukvetta.version import version  # noqa: E402
 
 from .grammar import tables  # noqa: E402
 
-ASSEMBLER = "letters", "near", "faults", "parser", "syntax", "recovery", "record", "loops", "names", "region", "source"
-REST = "library", "printed", "editor", "app"
+ASSEMBLER = "letters", "near", "faults", "parser", "syntax", "recovery", "record", "loops", "names", "region", "source", "references"
+REST = "library", "printed", "explained", "editor", "app"
 WANTED = "WORDS", "USUAL_LENT"
 
 

@@ -12,19 +12,13 @@ function answered(library, store, names) {
   };
 }
 
-// What a refusal says, with the region that its word names and, of a source, that region's line.
-function explainedRefusal([number, word], made) {
-  const told = `Refusal ${number}: ${RULES[number]}.`;
-  if (number < 5 || number > 8) return told;
-  const region = made && made.record.regions[word];
-  return told + ` It is in region ${made ? made.names.regionName(word) : word}` + (region ? `, which begins at line ${region.line}.` : ".");
-}
-
 // A sheet in a few words: its outcome and its figure, or its refusal.
 function stateText({ sheet, refused }) {
   const [outcome, , figure] = sheet.split("\n")[0].split(" ");
   return refused ? sheet.trim() : outcome + (figure === "-" ? "" : `, figure ${Number(figure).toLocaleString("en-US")}`);
 }
+
+const firstColumn = (text, line) => lengthOf(/^[ \t]*/.exec(text.split("\n")[line - 1])[0]) + 1;
 
 class Page {
   constructor(library) {
@@ -148,12 +142,11 @@ class Page {
   // Show what the library answers to a store.
   answer(store, told, made) {
     this.store = store;
-    const explained = told.refused ? explainedRefusal(told.refused, made) : "";
-    const region = told.refused && made && told.refused[0] > 4 && told.refused[0] < 9 ? made.record.regions[told.refused[1]] : null;
-    this.editor.mark(region ? [{ line: region.line, column: 1 }] : []);
-    this.told(region ? [this.row({ line: region.line, column: 1 }, `line ${region.line}: ${explained}`)] : [],
-      stateText(told), Boolean(told.refused));
-    this.draw({ ...told, explained }, { title: this.name, words: told.words });
+    const { text = "", line } = told.refused ? explainedRefusal(told.refused, made, told.record) : {};
+    const places = line ? [{ line, column: firstColumn(this.editor.text, line) }] : [];
+    this.editor.mark(places);
+    this.told(places.map(place => this.row(place, `line ${line}: ${text}`)), stateText(told), Boolean(told.refused));
+    this.draw({ ...told, explained: text }, { title: this.name, words: told.words });
   }
 
   // Draw, unless just this is drawn already: a comment that is written changes nothing.
@@ -193,5 +186,5 @@ function download(bytes, name) {
 }
 
 // What the tests call: the same functions as the page.
-window.rukvetta = { assemble, decoded, Faults, recordText, sheetText, refusalText, ready: loadLibrary() };
+window.rukvetta = { assemble, Faults, placeOf, withNames, recordText, sheetText, refusalText, ready: loadLibrary() };
 window.rukvetta.ready.then(library => { window.rukvetta.page = new Page(library); });

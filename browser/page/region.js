@@ -1,13 +1,14 @@
 // One region of a source: its inputs, blocks, terminator, passed values and exits.
 
 const ANY = [KIND.undefined, 0, 1];     // stands for a value that is at fault
+const TERMINATOR_RULES = ["unreachable", "return_", "exit_", "branch", "select"];
 
 class RegionReader {
   constructor(names, at, tree, gathered, draft) {
     Object.assign(this, { names, at, tree, gathered, draft });
     [this.own, this.count, this.wantsExits, this.hasLimit] = [new Map(), 0, null, false];
     this.made = { inputs: [], blocks: [], limit: 1, kind: ENDS.unreachable, opcode: 0, values: [], targets: [], passed: new Map(),
-                  exits: [], line: tree.meta.line };
+                  exits: [], lines: new Map() };
   }
 
   told(action) {
@@ -20,9 +21,14 @@ class RegionReader {
     this.told(() => { if (limit) this.made.limit = numberOf(limit, ALLOWED.limit, "limit"); });
     trees(inputs).forEach(part => this.input(...part.children));
     this.held(this.made.inputs, ALLOWED.inputs, this.tree.meta, "inputs");
-    parts.filter(Boolean).forEach(part => this.told(() => this[part.data](part)));
+    parts.filter(Boolean).forEach(part => this.told(() => this.part(part)));
     this.held(this.made.blocks, ALLOWED.blocks, this.tree.meta, "blocks");
     return this.made;
+  }
+
+  part(part) {
+    if (TERMINATOR_RULES.includes(part.data)) this.made.lines.set("terminator", part.meta.line);
+    this[part.data](part);
   }
 
   input(name, given) {
@@ -61,13 +67,14 @@ class RegionReader {
       throw faultAt(reference.meta, `found other values for region ${target} than before, expected the same: ` +
         "a region passes each target one list");
     }
+    if (!this.made.lines.has(`pass ${target}`)) this.made.lines.set(`pass ${target}`, reference.meta.line);
     return target;
   }
 
   // Blocks: with a line for each instruction, with or without the word `block`, or as a record's text has them.
 
   block(tree) {
-    const block = tree.children.map(part => this.instruction(...part.children));
+    const block = tree.children.map(part => this.instruction(part.meta, ...part.children));
     this.made.blocks.push(this.held(block, ALLOWED.instructions, tree.meta, "instructions in a block"));
   }
 
@@ -75,7 +82,7 @@ class RegionReader {
     this.block(tree);
   }
 
-  instruction(name, code, reads, given, cost) {
+  instruction(at, name, code, reads, given, cost) {
     const known = this.told(() => this.names.opcode(code)), opcode = known || { number: 0, type: 1, cost: 0 };
     let type = given ? 1 : opcode.type, dear = 0;
     this.told(() => { if (given) type = this.names.type(given); });
@@ -83,7 +90,7 @@ class RegionReader {
     const values = this.valuesOf(reads, ALLOWED.reads, "values read");
     if (name) this.named(name, type || !known);
     this.count++;
-    return { opcode: opcode.number, type, cost: dear, reads: values };
+    return { opcode: opcode.number, type, cost: dear, reads: values, line: at.line };
   }
 
   // An instruction's own cost, or its opcode's, or the source's default.
@@ -111,7 +118,7 @@ class RegionReader {
       this.told(() => this.checkItem(item, at, fields));
       const reads = this.valuesOf(tree.children[k + 1].children[0], ALLOWED.reads, "values read");
       const [opcode, type, cost] = fields.map(decimal);
-      block.push({ opcode, type, cost, reads });
+      block.push({ opcode, type, cost, reads, line: item.line });
       this.count++;
     }
     this.made.blocks.push(this.held(block, ALLOWED.instructions, tree.meta, "instructions in a block"));
@@ -173,6 +180,7 @@ class RegionReader {
   }
 
   exits(tree) {
+    this.made.lines.set("exits", tree.meta.line);
     this.wantsExits = !tree.children.length;
     this.made.exits = this.held(trees(tree).map(part => this.names.region(part)), ALLOWED.exits, tree.meta, "exits");
   }

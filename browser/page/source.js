@@ -65,7 +65,7 @@ class SourceReader {
 
   header(regions) {
     const header = trees(this.tree, "header")[0], [count, entry, test] = header.children;
-    const record = { entry: 0, test: 0, constants: [], regions: [] };
+    const record = { entry: 0, test: 0, constants: [], regions: [], line: header.meta.line };
     this.told(() => {
       if (count && numberOf(count) !== regions.length && !this.draft.patched.size) {
         throw faultAt(count, `found regions ${count.value}, expected ${regions.length}: as many as there are`);

@@ -132,8 +132,21 @@ class AtWork(InBrowser):
     def test_a_source_that_is_refused(self) -> None:
         self.write("record\nregion first\n    branch to last\nregion last\n    7 (d0.0) cost 1\n    return\n")
         self.assertEqual(self.sheet(), "refused 6 1\n")
-        self.assertIn("It is in region last, which begins at line 4.", self.browser.texts("#faults li")[0])
-        self.assertEqual(self.browser.texts(".gutter .wrong"), ["4\n"])
+        said = "Region 1 (last) reads d0.0 (block 0, instruction 0, read 0): only region 1 (last)'s own inputs and outputs would be allowed"
+        self.assertIn(f"line 5: Refusal 6: a region, constant or value names nothing allowed. {said}", self.browser.texts("#faults li")[0])
+        self.assertEqual((self.browser.texts(".gutter .wrong"), self.browser.texts(".marks .fault")), (["5\n"], ["7"]))
+
+    def test_a_figure_that_is_too_great(self) -> None:
+        """The sentence is the workbench's, with names for a source and without for its store."""
+        from rukvetta.explain import named, nesting_sentence
+        from rukvetta.routine import Routine
+
+        source = (CATALOGUE / "calibration.routine").read_bytes()
+        store, record, names = assemble(source)
+        for name, data, called in ("c.routine", source, names), ("c.store", store, None):
+            self.drop(name, data)
+            sentence = named(Routine("c", store, called, record), nesting_sentence(11, 0, record))
+            self.assertEqual(self.browser.texts(".explained"), [f"Refusal 11: the figure exceeds 4,294,967,295. {sentence}"])
 
     def test_a_source_that_is_dropped(self) -> None:
         source = (CATALOGUE / "am-plain.routine").read_bytes()
