@@ -27,6 +27,8 @@ class Statuses(unittest.TestCase):
         for arguments in (), ("page",), ("none/page.html",), ("a.html", "b.html"), ("--nonsense", "a.html"):
             with self.subTest(arguments=arguments):
                 self.assertEqual(self.build(*arguments)[0], 2)
+        with tempfile.TemporaryDirectory(suffix=".html") as folder:
+            self.assertEqual(self.build(folder)[0], 2)
 
     @needs_browser
     def test_missing_programs(self) -> None:
