@@ -187,4 +187,7 @@ function download(bytes, name) {
 
 // What the tests call: the same functions as the page.
 window.rukvetta = { assemble, Faults, placeOf, withNames, recordText, sheetText, refusalText, ready: loadLibrary() };
-window.rukvetta.ready.then(library => { window.rukvetta.page = new Page(library); });
+window.rukvetta.ready.then(library => { window.rukvetta.page = new Page(library); }, error => {
+  $("state").textContent = `The compiled library does not run in this browser: ${error.message}`;
+  $("state").classList.add("wrong");
+});

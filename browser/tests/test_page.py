@@ -62,6 +62,16 @@ class AtWork(InBrowser):
         self.assertEqual(self.browser.run("return performance.getEntriesByType('resource').length"), 0)
         self.assertIn("default-src 'none'", PAGE.read_text(encoding="utf-8"))
 
+    def test_a_library_that_does_not_run(self) -> None:
+        from browser.pages import nesting_page
+
+        path = os.path.join(self.folder.name, "broken.html")
+        with open(path, "w", encoding="utf-8") as file:
+            file.write(nesting_page(b"no module"))
+        self.browser.open(path)
+        self.browser.driver.execute_async_script("rukvetta.ready.catch(arguments[0])")
+        self.assertIn("The compiled library does not run in this browser", self.state())
+
     def test_it_says_what_is_not_proved(self) -> None:
         self.assertIn("Compiling to WebAssembly is not.", self.browser.texts("summary")[0])
         self.assertIn("Compiling it to WebAssembly is outside of the proof.", self.browser.texts("details")[0])
