@@ -4,15 +4,12 @@ from __future__ import annotations
 
 import os
 import pathlib
-import re
 import shutil
 import subprocess
 
 ROOT = pathlib.Path(__file__).resolve().parents[1]
-TARGET = "wasm32-unknown-unknown"
 EXPORTED = "rukvetta_accept", "rukvetta_nest", "__heap_base"
 STACK_BYTES = 65536  # in front of all other memory, so that a stack that is too deep stops the call
-AS_NUMBER = re.compile(r"ptrtoint|ptrtoaddr|inttoptr|target-features|llvm\.x86")
 
 
 class Missing(Exception):
@@ -30,46 +27,30 @@ def program(name: str, package: str) -> str:
     return found
 
 
-def toolchain_clang() -> str:
-    """The clang that the toolchain brings, beside rt."""
-    kit = pathlib.Path(program("rt", "the Rattle toolchain")).resolve().parents[1]
-    clang = kit / "on" / os.uname().machine / "toolchain" / "bin" / "clang"
-    if not clang.is_file():
-        raise Missing("no clang beside rt")
-    return str(clang)
+def needed() -> str:
+    """The linker, if it and the toolchain are there."""
+    program("rt", "the Rattle toolchain")
+    return program("wasm-ld", "Debian's package lld")
 
 
-def needed() -> tuple[str, str]:
-    """The clang and the linker, if both are there."""
-    return toolchain_clang(), program("wasm-ld", "Debian's package lld")
-
-
-def run(*command: str | pathlib.Path) -> None:
-    done = subprocess.run(command, capture_output=True, text=True)
+def run(*command: str | pathlib.Path, kit: pathlib.Path | None = None) -> str:
+    """What a program prints, started in the repository; its toolchain is another kit, if one is given."""
+    environment = dict(os.environ, RATTLE_HOME=str(kit)) if kit else None
+    done = subprocess.run(command, capture_output=True, text=True, cwd=ROOT, env=environment)
     if done.returncode:
         raise Failed(f"{pathlib.Path(command[0]).name} failed: {(done.stderr or done.stdout).strip()[-2000:]}")
-
-
-def retargeted(module: str) -> str:
-    """A module's text without x86-64's layout and processor. An address must not be taken as a number in it."""
-    module = re.sub(r"^target datalayout.*\n", "", module, flags=re.M)
-    module = re.sub(r"^target triple.*", f'target triple = "{TARGET}"', module, flags=re.M)
-    module = re.sub(r'"(target-cpu|probe-stack)"="[^"]*"', "", module)
-    if AS_NUMBER.search(module):
-        raise Failed("an address is taken as a number in the module, or x86-64 is meant")
-    return module
+    return done.stdout.strip()
 
 
 def compiled(work: pathlib.Path) -> bytes:
     """The library as a WebAssembly module, made in a folder."""
-    clang, linker = needed()
-    run(ROOT / "bench" / "measured" / "build", work, "c_interface")
-    x86, text, made, linked = (work / name for name in ("x86.ll", "module.ll", "module.o", "module.wasm"))
-    as_text = "-S", "-emit-llvm", "-Xclang", "-disable-llvm-passes"
-    run(clang, "-x", "ir", work / "module.bc", "--target=x86_64-unknown-linux-gnu", *as_text, "-o", x86)
-    text.write_text(retargeted(x86.read_text(encoding="utf-8")), encoding="utf-8")
-    run(clang, "-x", "ir", text, f"--target={TARGET}", "-O2", "--no-default-config", "-Werror", "-mbulk-memory", "-c", "-o", made)
+    linker = needed()
+    kit, module, linked = work / "kit", work / "module", work / "module.wasm"
+    kit.mkdir()
+    kept = pathlib.Path(run(ROOT / "interface" / "module" / "kit", kit))
+    run("rt", "staticlib", "c_interface", kit=kit)
+    run(ROOT / "interface" / "module" / "compile", kept / "module.bc", "wasm32", "O2", module)
     exports = [f"--export={name}" for name in EXPORTED]
     layout = "--no-entry", "--strip-all", "--gc-sections", "--stack-first", "-z", f"stack-size={STACK_BYTES}"
-    run(linker, made, *layout, *exports, "-o", linked)
+    run(linker, module.with_suffix(".o"), *layout, *exports, "-o", linked)
     return linked.read_bytes()

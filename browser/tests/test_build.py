@@ -1,4 +1,4 @@
-"""browser/build ends with the status that it says, and a module that takes an address as a number is refused."""
+"""browser/build ends with the status that it says."""
 
 import os
 import pathlib
@@ -39,28 +39,9 @@ class Statuses(unittest.TestCase):
 
     @needs_browser
     def test_a_linker_is_needed(self) -> None:
-        """With a toolchain of empty programs beside each other, wasm-ld is what lacks."""
+        """With an empty program for a toolchain, wasm-ld is what lacks."""
         with tempfile.TemporaryDirectory() as name:
-            kit = pathlib.Path(name)
-            tools = kit / "on" / os.uname().machine / "toolchain" / "bin"
-            for program in kit / "bin" / "rt", tools / "clang":
-                program.parent.mkdir(parents=True)
-                program.touch(mode=0o755)
-            said = self.build(str(kit / "page.html"), path=str(kit / "bin"))
+            folder = pathlib.Path(name)
+            (folder / "rt").touch(mode=0o755)
+            said = self.build(str(folder / "page.html"), path=name)
             self.assertEqual(said, (3, "browser/build: no wasm-ld on the path (Debian's package lld)\n"))
-
-
-class Module(unittest.TestCase):
-    TEXT = 'target datalayout = "e-m:e"\ntarget triple = "x86_64-unknown-linux-gnu"\nattributes #0 = { nounwind "target-cpu"="x86-64" }\n'
-
-    def test_it_loses_its_processor(self) -> None:
-        from browser.compiled import retargeted
-
-        self.assertEqual(retargeted(self.TEXT), 'target triple = "wasm32-unknown-unknown"\nattributes #0 = { nounwind  }\n')
-
-    def test_an_address_as_a_number(self) -> None:
-        from browser.compiled import Failed, retargeted
-
-        for line in "%1 = ptrtoint ptr %0 to i64", "%1 = inttoptr i64 %0 to ptr", 'attributes #1 = { "target-features"="+sse" }':
-            with self.subTest(line=line), self.assertRaises(Failed):
-                retargeted(self.TEXT + line)
