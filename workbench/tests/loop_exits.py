@@ -6,8 +6,9 @@ tools/beside --lists SOURCE < beside/lists/sheets.vectors | python3 workbench/te
 import sys
 
 
-def main():
-    found = []
+def main() -> None:
+    """Reads the answers, and prints a line for each store."""
+    found: list[str] = []
     for line in map(str.strip, sys.stdin):
         if line == ".":
             print("; ".join(found) or "-")

@@ -11,6 +11,8 @@ import subprocess
 import sys
 import tempfile
 import time
+from collections.abc import Iterator
+from dataclasses import dataclass
 
 from .random_records import damaged_store, random_store
 from .support import CATALOGUE, ROOT, programs, put
@@ -22,7 +24,7 @@ RUKVETTA = os.path.join(ROOT, "bin", "rukvetta")
 ROUTINES = 212
 
 
-def stores(count):
+def stores(count: int) -> Iterator[bytes]:
     """So many stores, the same ones each time. None is kept: what this process holds would count for the one it starts."""
     rng = random.Random(77)
     for _ in range(count):
@@ -30,8 +32,18 @@ def stores(count):
         yield damaged_store(rng, store) if rng.random() < 0.1 else store
 
 
-def timed(folder):
-    """The last line, the seconds, those of the processor with all that was started, and the greatest process in megabytes of one run."""
+@dataclass(frozen=True)
+class Run:
+    """One run: its last line, its seconds, those of the processor with all that was started, and its greatest process in megabytes."""
+
+    said: str
+    seconds: float
+    work: float
+    size: float
+
+
+def timed(folder: str) -> Run:
+    """Runs the check of a folder."""
     start = time.monotonic()
     with tempfile.TemporaryFile() as out:
         child = subprocess.Popen([RUKVETTA, "check", folder], stdout=out)
@@ -39,7 +51,7 @@ def timed(folder):
         child.returncode = 0
         seconds = time.monotonic() - start
         out.seek(0)
-        return out.read().decode().splitlines()[-1], seconds, used.ru_utime + used.ru_stime, used.ru_maxrss / 1024
+        return Run(out.read().decode().splitlines()[-1], seconds, used.ru_utime + used.ru_stime, used.ru_maxrss / 1024)
 
 
 def random_stores(folder: str, count: int) -> None:
@@ -76,8 +88,8 @@ def main() -> None:
                 varied_routines(folder)
             else:
                 random_stores(folder, int(word))
-            said, seconds, work, size = timed(folder)
-            print(f"{word}: {said}, {seconds:.1f} s, {work:.1f} s of processor time, {size:.1f} MB", flush=True)
+            run = timed(folder)
+            print(f"{word}: {run.said}, {run.seconds:.1f} s, {run.work:.1f} s of processor time, {run.size:.1f} MB", flush=True)
 
 
 if __name__ == "__main__":

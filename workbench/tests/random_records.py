@@ -1,13 +1,16 @@
 """Random accepted records, and damage to stores and sources. Everything comes from a seeded generator."""
 
+from random import Random
+
 from rukvetta import record as r
 from rukvetta.loops import loop_exits
 from rukvetta.store import BLOCK, CHECK, check_of, store_of, words_of
 
 EDGES = (0, 1, 2, 3, 4, 5, 6, 8, 9, 31, 32, 33, 64, 65, 255, 256, 4048, 4049, 65535)
+Known = tuple[r.Value, int]  # a value that may be used, and its type
 
 
-def value(rng, record, number, known, wanted=None):
+def value(rng: Random, record: r.Record, number: int, known: list[Known], wanted: int | None = None) -> r.Value:
     """A value that may be used in a region, of a wanted type if one is wanted."""
     fitting = [value for value, given in known if wanted in (None, given)]
     fitting += [(r.CONSTANT, 0, k) for k, given in enumerate(record.constants) if wanted in (None, given)]
@@ -17,7 +20,8 @@ def value(rng, record, number, known, wanted=None):
     return r.UNDEFINED, 0, wanted or rng.choice((1, 2, 255))
 
 
-def blocks(rng, record, number, known):
+def blocks(rng: Random, record: r.Record, number: int, known: list[Known]) -> list[list[r.Instruction]]:
+    """The blocks of a region; what they give is known behind them."""
     made, place = [], 0
     for _ in range(rng.choice((0, 1, 1, 2, 8)) if rng.random() < 0.9 else 0):
         block = []
@@ -32,7 +36,7 @@ def blocks(rng, record, number, known):
     return made
 
 
-def region(rng, record, number, inputs, returned):
+def region(rng: Random, record: r.Record, number: int, inputs: list[list[int]], returned: list[int]) -> r.Region:
     """A region of a record whose regions' inputs are known."""
     known = [((r.INPUT, number, k), given) for k, given in enumerate(inputs[number])]
     made = r.Region(inputs[number], blocks(rng, record, number, known), rng.choice((1, 10, 65535)),
@@ -50,7 +54,7 @@ def region(rng, record, number, inputs, returned):
     return made
 
 
-def random_record(rng):
+def random_record(rng: Random) -> r.Record:
     count = rng.choice((1, 2, 3, 4, 5, 6, 8, 12, 20, 32))
     inputs = [[rng.choice((1, 2, 2, 255)) for _ in range(rng.randint(0, 4))] for _ in range(count)]
     record = r.Record(rng.randrange(count), rng.choice((0, 2, 65535)),
@@ -63,7 +67,7 @@ def random_record(rng):
     return record
 
 
-def random_store(rng):
+def random_store(rng: Random) -> bytes:
     """The store of a random record that fits."""
     while True:
         words = r.record_words(random_record(rng))
@@ -71,7 +75,7 @@ def random_store(rng):
             return store_of(words)
 
 
-def damaged_store(rng, store):
+def damaged_store(rng: Random, store: bytes) -> bytes:
     """A store with another length, byte or word; words mostly with the checks put right, so that they are reached."""
     store, choice = bytearray(store), rng.random()
     if choice < 0.1:
@@ -91,7 +95,7 @@ def damaged_store(rng, store):
     return bytes(blocks)
 
 
-def damaged_source(rng, source):
+def damaged_source(rng: Random, source: bytes) -> bytes:
     """A source with bytes or words changed, left out, doubled or put in."""
     words = source.split(b" ")
     choice, at = rng.randrange(7), rng.randrange(max(len(source), 1))

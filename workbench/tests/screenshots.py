@@ -3,6 +3,7 @@
 import os
 import sys
 import tempfile
+from typing import NoReturn
 
 from .browser import Browser, missing
 from .support import WORKBENCH
@@ -16,12 +17,14 @@ from rukvetta.routine import load
 PICTURES = ("sweep-markers", False), ("ramp-nested", True), ("trigger-chase", False)
 
 
-def refuse(sentence, status):
+def refuse(sentence: str, status: int) -> NoReturn:
+    """Says why nothing is made, and ends."""
     print(f"screenshots: {sentence}", file=sys.stderr)
     raise SystemExit(status)
 
 
-def main():
+def main() -> None:
+    """Makes the pictures."""
     if sys.argv[1:]:
         refuse("usage: /usr/bin/python3 -m tests.screenshots, with nothing behind it", USAGE)
     if missing():

@@ -99,19 +99,19 @@ FAULTS = [
 
 
 class Assemble(unittest.TestCase):
-    def test_names_become_numbers(self):
+    def test_names_become_numbers(self) -> None:
         self.assertEqual(assemble(SWEEP)[0], assemble(SWEEP_SHOWN.encode())[0])
 
-    def test_the_names_are_kept_for_pictures(self):
+    def test_the_names_are_kept_for_pictures(self) -> None:
         lines = list(assemble(SWEEP)[2].lines())
         for line in "region 1 sweep", "type 2 hertz", "opcode 17 set", "value c0 from", "value i1.0 f", "value d1.2 more":
             self.assertIn(line, lines)
 
-    def test_line_ends_and_a_missing_last_one(self):
+    def test_line_ends_and_a_missing_last_one(self) -> None:
         self.assertEqual(assemble(SWEEP.replace(b"\n", b"\r\n"))[0], assemble(SWEEP)[0])
         self.assertEqual(assemble(SWEEP.rstrip())[0], assemble(SWEEP)[0])
 
-    def test_faults(self):
+    def test_faults(self) -> None:
         for source, line, column, said in FAULTS:
             with self.subTest(source=source):
                 with self.assertRaises(Fault) as raised:
@@ -120,26 +120,26 @@ class Assemble(unittest.TestCase):
                 self.assertEqual((fault.line, fault.column), (line, column), fault.message)
                 self.assertIn(said, fault.message)
 
-    def test_numbers(self):
+    def test_numbers(self) -> None:
         source = b"record entry 000 test 0x00ff\nregion 0 limit 00000000000000000012\n0x10 : 0x2 cost 007\nreturn\n"
         record, _ = read_source(source)
         region = record.regions[0]
         made = region.blocks[0][0]
         self.assertEqual((record.test, region.limit, made.opcode, made.type, made.cost), (255, 12, 16, 2, 7))
 
-    def test_without_the_package(self):
+    def test_without_the_package(self) -> None:
         done = subprocess.run([sys.executable, "-S", os.path.join(WORKBENCH, "assemble")], input=SWEEP, capture_output=True, check=False)
         self.assertEqual((done.returncode, done.stdout), (3, b""))
         self.assertRegex(done.stderr.decode(), r"\AThis needs Debian's python3-lark .*`apt-get install .*` installs all that .*\.\n\Z")
 
-    def test_a_record_too_long(self):
+    def test_a_record_too_long(self) -> None:
         block = b"block\n" + b"7 (true, true, true) cost 1\n" * 8
         region = b"region r%d\n" + block * 8 + b"return\n"
         with self.assertRaises(Fault) as raised:
             assemble(b"record\n" + b"".join(region % number for number in range(32)))
         self.assertIn("at most 4048", raised.exception.message)
 
-    def test_the_command(self):
+    def test_the_command(self) -> None:
         status, store, said = command("assemble", data=SWEEP)
         self.assertEqual((status, store, said), (0, assemble(SWEEP)[0], ""))
         status, store, said = command("assemble", data=SWEEP.replace(b"below(", b"belw("))
@@ -151,10 +151,10 @@ class Assemble(unittest.TestCase):
 
 @needs_show
 class RoundTrip(unittest.TestCase):
-    def same(self, store):
+    def same(self, store: bytes) -> None:
         self.assertEqual(assemble(programs.show(store).encode())[0], store)
 
-    def test_the_lists(self):
+    def test_the_lists(self) -> None:
         shown = [(store, answer) for store, answer in vectors("stores.vectors") if not answer.startswith("refused")]
         for store, answer in shown:
             self.assertEqual(assemble(answer.encode())[0], store)
@@ -164,7 +164,7 @@ class RoundTrip(unittest.TestCase):
             self.same(store)
         self.assertEqual((len(shown), len(accepted)), (855, 1116))
 
-    def test_random_stores(self):
+    def test_random_stores(self) -> None:
         rng = random.Random(12)
         for _ in range(RANDOM):
             self.same(random_store(rng))
@@ -172,7 +172,7 @@ class RoundTrip(unittest.TestCase):
 
 class ExitsAuto(unittest.TestCase):
     @needs_show
-    def test_the_lists_of_the_rust(self):
+    def test_the_lists_of_the_rust(self) -> None:
         """loop-exits.txt has what LoopFinder itself finds in the stores of sheets.vectors (tests/loop_exits.py)."""
         with open(os.path.join(WORKBENCH, "tests", "loop-exits.txt"), encoding="ascii") as lines:
             found = [line.strip() for line in lines]
@@ -187,7 +187,7 @@ class ExitsAuto(unittest.TestCase):
         self.assertGreater(compared, 1100)
         self.assertGreater(loops, 1000)
 
-    def test_a_list_stays_and_auto_fills_in(self):
+    def test_a_list_stays_and_auto_fills_in(self) -> None:
         source = SWEEP.replace(b"to sweep(next), done", b"to sweep(next), done\n    exits -")
         self.assertEqual([region.exits for region in read_source(source)[0].regions], [[], [], []])
         source = SWEEP.replace(b" exits auto", b"").replace(b"to sweep(next), done", b"to sweep(next), done\n    exits auto")

@@ -51,7 +51,7 @@ def wrong_in(value: object, wanted: dict, where: str = "document") -> list[str]:
 
 
 class Folder(unittest.TestCase):
-    def setUp(self):
+    def setUp(self) -> None:
         folder = tempfile.TemporaryDirectory()
         self.addCleanup(folder.cleanup)
         self.folder = folder.name
@@ -69,7 +69,7 @@ class Folder(unittest.TestCase):
 class Commands(Folder):
     """Each command, as a person would use it."""
 
-    def test_help_and_version(self):
+    def test_help_and_version(self) -> None:
         status, out, _ = self.rukvetta("--help")
         self.assertEqual(status, 0)
         for name in "nest", "show", "assemble", "explain", "report", "check", "diff":
@@ -81,7 +81,7 @@ class Commands(Folder):
         for arguments in (), ("nonsense",), ("nest", "--nonsense"), ("assemble", "x"), ("check",), ("diff", "a"):
             self.assertEqual(self.rukvetta(*arguments)[0], 2, arguments)
 
-    def test_nest_and_show(self):
+    def test_nest_and_show(self) -> None:
         source = os.path.join(CATALOGUE, "case-a.routine")
         store = put(self.path("a.store"), assemble(page("workbench", "catalogue", "case-a.routine").encode())[0])
         sheet, shown = page("workbench", "catalogue", "case-a.sheet"), programs.show(assemble(SWEEP)[0])
@@ -94,7 +94,7 @@ class Commands(Folder):
         self.assertEqual(self.rukvetta("nest", store, folder=self.folder)[0], 3)
         self.assertEqual(self.rukvetta("nest", self.path("none")), (2, "", f"{self.path('none')}: No such file or directory\n"))
 
-    def test_a_terminal_is_told_that_it_is_read(self):
+    def test_a_terminal_is_told_that_it_is_read(self) -> None:
         ours, theirs = pty.openpty()
         done = subprocess.Popen([os.path.join(ROOT, "bin", "rukvetta"), "nest", "--programs", programs.folder], stdin=theirs,
                                 stdout=subprocess.PIPE, stderr=subprocess.PIPE)
@@ -105,7 +105,7 @@ class Commands(Folder):
         self.assertEqual((done.returncode, out.split(b" ")[0]), (0, b"whole"))
         self.assertEqual(said, b"reading standard input, a terminal; Ctrl-D ends it\n")
 
-    def test_a_progress_line_stands_beside_the_text(self):
+    def test_a_progress_line_stands_beside_the_text(self) -> None:
         """Standard output is a file, standard error a terminal: the text goes to the one, the line to the other."""
         paths = [os.path.join(CATALOGUE, name) for name in sorted(os.listdir(CATALOGUE)) if name.endswith(".routine")][:6]
         for words, wanted in (["nest", *paths], b"whole figure"), (["report", *paths, "-o", self.path("i.html")], b""):
@@ -125,7 +125,7 @@ class Commands(Folder):
             self.assertIn(b"6/6", shown)
             self.assertNotIn(b"whole figure", shown)
 
-    def test_it_decides_nothing_itself(self):
+    def test_it_decides_nothing_itself(self) -> None:
         """What is printed is what the programs answer, whatever that is."""
         for name, text in ("nest", "whole figure 5 attempts 1 twice 0"), ("show", "refused 8 3"):
             put(self.path(name), f"#!/bin/sh\necho {text}\n".encode())
@@ -133,7 +133,7 @@ class Commands(Folder):
         self.assertEqual(self.rukvetta("nest", data=SWEEP, folder=self.folder), (0, "whole figure 5 attempts 1 twice 0\n", ""))
         self.assertEqual(self.rukvetta("show", data=SWEEP, folder=self.folder), (1, "refused 8 3\n", ""))
 
-    def test_assemble_writes_nothing_where_it_fails(self):
+    def test_assemble_writes_nothing_where_it_fails(self) -> None:
         out = self.path("a.store")
         source = put(self.path("a.routine"), SWEEP)
         self.assertEqual(self.rukvetta("assemble", source, "-o", out), (0, "", ""))
@@ -149,7 +149,7 @@ class Commands(Folder):
         self.assertEqual(self.rukvetta("assemble", "-", "-o", self.path("none", "b.store"), data=SWEEP)[0], 2)
         self.assertEqual(command(RUKVETTA, "assemble", "-", "-o", "-", data=SWEEP), (0, assemble(SWEEP)[0], ""))
 
-    def test_the_old_commands_say_the_same(self):
+    def test_the_old_commands_say_the_same(self) -> None:
         source = os.path.join(CATALOGUE, "ramp-nested.routine")
         self.assertEqual(command("explain", source), command(RUKVETTA, "explain", source))
         self.assertEqual(command("check-catalogue", CATALOGUE), command(RUKVETTA, "check", CATALOGUE))
@@ -160,7 +160,7 @@ class Commands(Folder):
 
 @needs_nest
 class Check(Folder):
-    def setUp(self):
+    def setUp(self) -> None:
         super().setUp()
         os.makedirs(self.path("some", "deep", "er"))
         self.top, self.deep = self.path("some"), self.path("some", "deep", "er")
@@ -178,12 +178,12 @@ class Check(Folder):
         text = page(self.deep, "sweep-markers.routine")
         put(os.path.join(self.deep, "sweep-markers.routine"), text.replace("    next = add(", "    wait\n    next = add(").encode())
 
-    def test_subfolders(self):
+    def test_subfolders(self) -> None:
         status, last, text = self.last()
         self.assertEqual((status, last), (0, "2 passed, 0 failed"))
         self.assertIn("deep/er/sweep-markers", text)
 
-    def test_update_shows_and_takes_yes(self):
+    def test_update_shows_and_takes_yes(self) -> None:
         self.change()
         sheet = os.path.join(self.deep, "sweep-markers.sheet")
         before = page(sheet)
@@ -198,7 +198,7 @@ class Check(Folder):
         self.assertEqual(self.last()[0], 0)
         self.assertIn("figure 106128", page(sheet))
 
-    def test_update_asks(self):
+    def test_update_asks(self) -> None:
         self.change()
         for answer, status, figure in (b"n\n", 1, "96078"), (b"y\n", 0, "106128"):
             ours, theirs = pty.openpty()
@@ -212,7 +212,7 @@ class Check(Folder):
             self.assertEqual(done.returncode, status)
             self.assertIn(figure, page(self.deep, "sweep-markers.sheet"))
 
-    def test_update_writes_no_refusal(self):
+    def test_update_writes_no_refusal(self) -> None:
         shutil.copy(os.path.join(CATALOGUE, "calibration.routine"), self.top)
         self.assertEqual(self.last("--update", "--yes")[:2], (1, "2 passed, 1 failed"))
         self.assertFalse(os.path.exists(self.path("some", "calibration.sheet")))
@@ -226,14 +226,14 @@ class Diff(Folder):
         self.assertEqual(said, "")
         return status, out.splitlines()
 
-    def test_the_same(self):
+    def test_the_same(self) -> None:
         self.assertEqual(self.diff(SWEEP, SWEEP), (0, []))
         moved = SWEEP.replace(b"region done\n    return\n", b"").replace(b"region start\n", b"region done\n    return\nregion start\n")
         self.assertEqual(self.diff(SWEEP, moved), (0, []))
         for name, other in (b"from", b"begin"), (b"sweep", b"tone"), (b"next", b"then"), (b"hertz", b"hz"):     # names are no difference
             self.assertEqual(self.diff(SWEEP, SWEEP.replace(name, other)), (0, []), name)
 
-    def test_one_instruction_more(self):
+    def test_one_instruction_more(self) -> None:
         """A line for it and two for the figure; in the sheets as text some ten lines differ, in the records more."""
         old = page("workbench", "catalogue", "sweep-markers.routine").encode()
         new = old.replace(b"    next = add(", b"    wait\n    next = add(")
@@ -245,7 +245,7 @@ class Diff(Folder):
         sheets = [programs.nest(assemble(source)[0]).encode() for source in (old, new)]
         self.assertEqual(self.diff(*sheets, ".sheet"), (1, [*expected[:2], "+   5.new0/25/0/-"]))
 
-    def test_one_region_more(self):
+    def test_one_region_more(self) -> None:
         """All numbers behind it move, and none of them is told."""
         new = SWEEP.replace(b"    branch to sweep(from)\nregion sweep",
                             b"    branch to pause\nregion pause\n    add(from, from) cost 9\n    branch to sweep(from)\nregion sweep")
@@ -255,7 +255,7 @@ class Diff(Folder):
                                  "region 0:", "- branch to 1", "- pass 1 in c0", "+ branch to new1", "region new1, which is new:",
                                  "+ in - limit 1", "+ new d1.0 = 3(c0, c0) : 2 cost 9", "+ branch to 1", "+ pass 1 in c0"])
 
-    def test_a_change_in_each_part(self):
+    def test_a_change_in_each_part(self) -> None:
         for good, bad, told in ((b"limit 401", b"limit 400", "+ in 2 limit 400"), (b"test 2", b"test 3", "+ record entry start test 3"),
                                 (b"cost 12", b"cost 13", "+ set(f) cost 13"), (b"below(next,", b"below(f,", "+ more = below(f, stop)"),
                                 (b"to sweep(next), done", b"to sweep(f), done", "+ pass sweep in f"),
@@ -265,18 +265,18 @@ class Diff(Folder):
                 self.assertEqual(status, 1)
                 self.assertTrue(any(line.startswith(told) for line in lines), lines)
 
-    def test_a_sheet_and_a_source(self):
+    def test_a_sheet_and_a_source(self) -> None:
         one, other = put(self.path("a.sheet"), programs.nest(assemble(SWEEP)[0]).encode()), put(self.path("a.routine"), SWEEP)
         self.assertEqual(self.rukvetta("diff", one, other), (0, "", ""))
         put(other, SWEEP.replace(b"limit 401", b"limit 1"))
         self.assertEqual(self.rukvetta("diff", one, other)[0], 1)
 
-    def test_faults_and_refusals(self):
+    def test_faults_and_refusals(self) -> None:
         self.assertEqual(self.rukvetta("diff", put(self.path("a.routine"), b"rec"), put(self.path("b.routine"), SWEEP))[0], 1)
         self.assertEqual(self.diff(b"\0" * 512, b"", ".store"), (1, ["- refused 4 0", "+ refused 1 0"]))
         self.assertEqual(self.diff(b"junk\n", b"more\nof it\n", ".sheet"), (1, ["- junk", "+ more", "+ of it"]))
 
-    def test_sheets_of_the_list(self):
+    def test_sheets_of_the_list(self) -> None:
         """Each sheet is read and told again as it is, and differs in nothing from itself; the next one differs in something."""
         before = ""
         for _, sheet in vectors("sheets.vectors"):
@@ -298,7 +298,7 @@ class Json(Folder):
         self.assertEqual((made["status"], made["command"]), (status, arguments[0]))
         return made
 
-    def test_the_schema_catches_what_is_wrong(self):
+    def test_the_schema_catches_what_is_wrong(self) -> None:
         good = self.document(0, "nest", os.path.join(CATALOGUE, "case-a.routine"))
         for field, value in ("schema", 2), ("status", "0"), ("messages", [1]), ("routines", {}), ("passed", "3"), ("status", True):
             self.assertTrue(wrong_in({**good, field: value}, schema()), field)
@@ -306,7 +306,7 @@ class Json(Folder):
         self.assertTrue(wrong_in({**good, "more": 1}, schema()))
         self.assertTrue(wrong_in({**good, "routines": [{**good["routines"][0], "outcome": "good"}]}, schema()))
 
-    def test_each_command(self):
+    def test_each_command(self) -> None:
         good, refused = os.path.join(CATALOGUE, "case-a.routine"), os.path.join(CATALOGUE, "calibration.routine")
         bad = put(self.path("bad.routine"), SWEEP.replace(b"below(next", b"belw(nxt"))
         made = self.document(1, "nest", good, refused, bad, "--clock", "10MHz")
@@ -337,7 +337,7 @@ class Json(Folder):
 class Version(unittest.TestCase):
     """It stands in one file, and all others agree with it."""
 
-    def test_places(self):
+    def test_places(self) -> None:
         version = page("VERSION").strip()
         self.assertRegex(version, r"\A\d+\.\d+\.\d+\Z")
         self.assertEqual([], disagreeing(version))

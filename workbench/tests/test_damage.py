@@ -5,6 +5,7 @@ import random
 import re
 import tempfile
 import unittest
+from collections.abc import Iterator
 
 from .random_records import damaged_source, damaged_store, random_store
 from .support import CATALOGUE, command, needs_nest, needs_show, programs
@@ -18,7 +19,7 @@ from rukvetta.routine import Routine
 DAMAGED = 2000
 
 
-def sources():
+def sources() -> Iterator[bytes]:
     """The catalogue's sources, and what `show` prints of their stores where it is there."""
     for name in sorted(os.listdir(CATALOGUE)):
         if name.endswith(".routine"):
@@ -30,14 +31,14 @@ def sources():
 
 
 class Sources(unittest.TestCase):
-    def explained(self, routine):
+    def explained(self, routine: Routine) -> None:
         """What is a record all the same is explained, with names and lines."""
         sentences, _ = explain(routine, programs)
         self.assertGreater(len(sentences), 1)
         for sentence in sentences:
             self.assertRegex(named(routine, sentence), r"\A\S.*\Z")
 
-    def test_damaged_sources(self):
+    def test_damaged_sources(self) -> None:
         rng, whole, refused = random.Random(3), list(sources()), 0
         for _ in range(DAMAGED):
             source = rng.choice(whole)
@@ -55,7 +56,7 @@ class Sources(unittest.TestCase):
                 self.assertLessEqual(fault.line, source.count(b"\n") + 1)
         self.assertGreater(refused, DAMAGED // 2)
 
-    def test_damaged_sources_by_the_command(self):
+    def test_damaged_sources_by_the_command(self) -> None:
         rng, whole = random.Random(4), list(sources())
         for _ in range(10):
             status, store, said = command("assemble", data=damaged_source(rng, damaged_source(rng, rng.choice(whole))))
@@ -65,13 +66,13 @@ class Sources(unittest.TestCase):
 
 @needs_show
 class Stores(unittest.TestCase):
-    def damaged(self, rng):
+    def damaged(self, rng: random.Random) -> Iterator[bytes]:
         """Stores of catalogue and random records, damaged."""
         whole = [assemble(source)[0] for source in sources()] + [random_store(rng) for _ in range(50)]
         while True:
             yield damaged_store(rng, rng.choice(whole))
 
-    def test_damaged_stores(self):
+    def test_damaged_stores(self) -> None:
         numbers = dict.fromkeys(RULES, 0)
         for _, store in zip(range(DAMAGED), self.damaged(random.Random(5))):
             sentences, status = explain(Routine("damaged", store), programs)
@@ -84,7 +85,7 @@ class Stores(unittest.TestCase):
                 self.assertIn(status, (0, 3))
         self.assertTrue(all(numbers[number] for number in range(1, 8)), numbers)
 
-    def test_damaged_stores_by_the_command(self):
+    def test_damaged_stores_by_the_command(self) -> None:
         with tempfile.TemporaryDirectory() as folder:
             path = os.path.join(folder, "r.store")
             for _, store in zip(range(10), self.damaged(random.Random(6))):
@@ -100,7 +101,7 @@ class Stores(unittest.TestCase):
 class Usage(unittest.TestCase):
     """Each command with nothing, with nonsense, and with files that are not what it takes."""
 
-    def setUp(self):
+    def setUp(self) -> None:
         folder = tempfile.TemporaryDirectory()
         self.addCleanup(folder.cleanup)
         self.folder = folder.name
@@ -110,17 +111,17 @@ class Usage(unittest.TestCase):
             with open(self.path(name), "wb") as file:
                 file.write(data)
 
-    def path(self, name):
+    def path(self, name: str) -> str:
         return os.path.join(self.folder, name)
 
-    def says(self, status, said, name, *arguments):
+    def says(self, status: int, said: str, name: str, *arguments: str) -> None:
         with self.subTest(command=name, arguments=arguments):
             got, out, messages = command(name, *arguments)
             self.assertEqual(got, status)
             self.assertIn(said, out.decode() + messages)
             self.assertNotIn("Traceback", out.decode() + messages)
 
-    def test_arguments(self):
+    def test_arguments(self) -> None:
         self.says(1, "found the end of the source", "assemble")
         self.says(2, "unrecognized arguments: file", "assemble", "file")
         for name, wanted in ("explain", "STORE"), ("report", "STORE, -o"), ("check-catalogue", "FOLDER"):
@@ -132,7 +133,7 @@ class Usage(unittest.TestCase):
         for jobs in "0", "-1", "x", "65", "9" * 99:
             self.says(2, f"found {jobs}, expected 1 to 64", "check-catalogue", CATALOGUE, f"--jobs={jobs}")
 
-    def test_files(self):
+    def test_files(self) -> None:
         page = self.path("page.html")
         for name, *rest in ("explain",), ("report", "-o", page):
             self.says(2, "No such file or directory", name, self.path("none"), *rest)
@@ -149,7 +150,7 @@ class Usage(unittest.TestCase):
         self.says(1, "0 passed, 4 failed", "check-catalogue", self.folder)
         self.says(3, "The program `show` is not in", "explain", self.path("one.store"), "--programs", self.path("none"))
 
-    def test_a_file_name_that_is_no_text(self):
+    def test_a_file_name_that_is_no_text(self) -> None:
         source = os.path.join(self.folder.encode(), b"\xff.routine")
         with open(source, "wb") as file:
             file.write(b"record\nregion a\nreturn\n")

@@ -15,51 +15,51 @@ from rukvetta.needs import COMMAND
 RUKVETTA = "../bin/rukvetta"
 
 
-def link_tree(folder):
+def link_tree(folder: str) -> None:
     """Make a folder look like that of the repository."""
     for name in "bin", "workbench", "docs":
         os.symlink(os.path.join(ROOT, name), os.path.join(folder, name))
 
 
-def run_line(line, folder):
+def run_line(line: str, folder: str) -> subprocess.CompletedProcess[bytes]:
     """Run a line of a page, as a person would."""
     return subprocess.run(line, shell=True, cwd=folder, capture_output=True, check=False,
                           env={**os.environ, "RUKVETTA_PROGRAMS": os.path.abspath(programs.folder)})
 
 
-def page(name):
+def page(name: str) -> str:
     with open(os.path.join(WORKBENCH, name), encoding="utf-8") as file:
         return file.read()
 
 
-def blocks(kind):
+def blocks(kind: str) -> list[str]:
     return re.findall(rf"```{kind}\n(.*?)```", page("docs/TEN-MINUTES.md"), re.S)
 
 
-def steps():
+def steps() -> list[tuple[str, str]]:
     """The page's sources and its commands, in their order: a pair each, one of the two empty."""
     text = re.sub(r"```(fault|explained|sheet)\n.*?```", "", page("docs/TEN-MINUTES.md"), flags=re.S)
     return re.findall(r"```routine\n(.*?)```|^    (\S[^\n]*)$", text, re.S | re.M)
 
 
 class TenMinutes(unittest.TestCase):
-    def test_the_sources_assemble(self):
+    def test_the_sources_assemble(self) -> None:
         self.assertEqual(len(blocks("routine")), 3)
         for source in blocks("routine"):
             assemble(source.encode())
 
-    def test_the_fault(self):
+    def test_the_fault(self) -> None:
         source = blocks("routine")[-1].replace("frequency(f)", "frequncy(f)").encode()
         status, _, said = command(RUKVETTA, "assemble", "-o", "-", data=source)
         self.assertEqual((status, said), (1, blocks("fault")[0].replace("ping.routine", "source")))
 
     @needs_show
-    def test_the_explanation(self):
+    def test_the_explanation(self) -> None:
         status, text, _ = command("explain", "-", data=blocks("routine")[-1].replace("tone(next)", "tone(next, low)").encode())
         self.assertEqual((status, text.decode()), (1, blocks("explained")[0]))
 
     @needs_nest
-    def test_step_by_step(self):
+    def test_step_by_step(self) -> None:
         """The whole page: each source is written down as it comes, each command run, and the sheet is the page's."""
         with tempfile.TemporaryDirectory() as folder:
             link_tree(folder)
@@ -78,7 +78,7 @@ class TenMinutes(unittest.TestCase):
             self.assertEqual(sorted(os.listdir(os.path.join(folder, "pings"))), ["ping.routine", "ping.sheet"])
 
 
-def long_sentences(text):
+def long_sentences(text: str) -> list[str]:
     """The sentences of more than thirty words; what is code is no sentence."""
     text = re.sub(r"```.*?```", ". ", text, flags=re.S)
     text = re.sub(r"(?m)^(    |#).*$", ". ", text)
@@ -87,7 +87,7 @@ def long_sentences(text):
 
 class CommandPage(unittest.TestCase):
     @needs_nest
-    def test_each_line_is_run(self):
+    def test_each_line_is_run(self) -> None:
         with open(os.path.join(ROOT, "docs", "COMMAND.md"), encoding="utf-8") as file:
             lines = re.findall(r"(?m)^    (bin/rukvetta .*)$", file.read())
         self.assertEqual(len(lines), 10)
@@ -98,7 +98,7 @@ class CommandPage(unittest.TestCase):
                 done = run_line(line, folder)
                 self.assertEqual((done.returncode, done.stderr), (int(wanted[1]) if wanted else 0, b""), line)
 
-    def test_every_command_is_named(self):
+    def test_every_command_is_named(self) -> None:
         with open(os.path.join(ROOT, "docs", "COMMAND.md"), encoding="utf-8") as file:
             text = file.read()
         for name in COMMANDS:
@@ -108,21 +108,21 @@ class CommandPage(unittest.TestCase):
 class Sentences(unittest.TestCase):
     """No sentence of the pages for users is longer than thirty words."""
 
-    def test_pages(self):
+    def test_pages(self) -> None:
         for name in "docs/JSON.md", "../docs/COMMAND.md":
             self.assertEqual([], long_sentences(page(name)), name)
         self.assertEqual(len(long_sentences("Short. " + "so " * 31 + "long.\n\n    " + "code " * 40 + "\n\nShort.\n")), 1)
 
 
 class Readme(unittest.TestCase):
-    def test_what_it_names(self):
+    def test_what_it_names(self) -> None:
         text = page("README.md")
         self.assertIn(COMMAND, re.sub(r"\s+", " ", text.replace("\\\n", " ")))
         self.assertIn(f"{len(os.listdir(CATALOGUE)) // 2} routines", text)
         count = unittest.defaultTestLoader.discover(os.path.join(WORKBENCH, "tests"), top_level_dir=WORKBENCH).countTestCases()
         self.assertIn(f"runs all: {count} tests", text)
 
-    def test_links_lead_somewhere(self):
+    def test_links_lead_somewhere(self) -> None:
         for name in "README.md", "docs/TEN-MINUTES.md", "docs/SOURCE-FORM.md", "docs/JSON.md", "../docs/COMMAND.md":
             for target in re.findall(r"\]\(([^)#]+)\)", page(name)):
                 self.assertTrue(os.path.exists(os.path.join(WORKBENCH, os.path.dirname(name), target)), target)
@@ -131,7 +131,7 @@ class Readme(unittest.TestCase):
 class SourceForm(unittest.TestCase):
     """One source with every construct of docs/SOURCE-FORM.md."""
 
-    def test_every_construct(self):
+    def test_every_construct(self) -> None:
         source = b"""# a comment
 type hertz 2
 opcode set 0x10 : hertz cost 3

@@ -43,7 +43,7 @@ REFUSALS = [
 ]
 
 
-def changed(place, word):
+def changed(place: int, word: int) -> bytes:
     """The sweep's store with another word at a place, its check right."""
     words = record_words(assemble(SWEEP)[1])
     words[place] = word
@@ -51,11 +51,11 @@ def changed(place, word):
 
 
 class Explain(unittest.TestCase):
-    def setUp(self):
+    def setUp(self) -> None:
         self.folder = tempfile.TemporaryDirectory()
         self.addCleanup(self.folder.cleanup)
 
-    def explain(self, data, ending=".store", folder=None):
+    def explain(self, data: bytes, ending: str = ".store", folder: str | None = None) -> tuple[int, str]:
         path = os.path.join(self.folder.name, "r" + ending)
         with open(path, "wb") as file:
             file.write(data)
@@ -66,13 +66,13 @@ class Explain(unittest.TestCase):
 
 @needs_show
 class Refusals(Explain):
-    def test_number_and_word_on_the_lists(self):
+    def test_number_and_word_on_the_lists(self) -> None:
         """The search for the place gives the proved answers on all 2,023 stores of the list."""
         for store, answer in vectors("stores.vectors"):
             found = place_of(store)
             self.assertEqual(f"refused {found.number} {found.word}\n" if found else answer, answer)
 
-    def test_sentences_of_references(self):
+    def test_sentences_of_references(self) -> None:
         for source, answer, said in REFUSALS:
             with self.subTest(source=source):
                 store = assemble(source.encode())[0]
@@ -81,12 +81,12 @@ class Refusals(Explain):
                 self.assertEqual((status, text.split("\n")[0]), (1, answer))
                 self.assertIn(said, text)
 
-    def test_sentences_with_lines_and_names(self):
+    def test_sentences_with_lines_and_names(self) -> None:
         status, text = self.explain(SWEEP.replace(b"to sweep(next)", b"to sweep(next, true)"), ".routine")
         self.assertEqual(status, 1)
         self.assertIn("Region 1 (sweep) passes 2 values to region 1 (sweep), which has 1 input (line 17 of the source).", text)
 
-    def test_sentences_of_store_and_words(self):
+    def test_sentences_of_store_and_words(self) -> None:
         store = assemble(SWEEP)[0]
         for bad, answer, said in (
                 (b"", "refused 1 0", "The store has 0 bytes; 512 to 8,192 in blocks of 512 would be allowed."),
@@ -106,7 +106,7 @@ class Refusals(Explain):
                 self.assertEqual((status, text.split("\n")[0]), (1, answer))
                 self.assertIn(said, text)
 
-    def test_where_the_two_differ_it_says_so(self):
+    def test_where_the_two_differ_it_says_so(self) -> None:
         program = os.path.join(self.folder.name, "show")
         with open(program, "w", encoding="ascii") as file:
             file.write("#!/bin/sh\necho refused 6 2\n")
@@ -118,7 +118,7 @@ class Refusals(Explain):
 
 @needs_show
 class Missing(Explain):
-    def test_without_the_programs(self):
+    def test_without_the_programs(self) -> None:
         status, _, said = command("explain", "-", data=SWEEP, folder=self.folder.name)
         self.assertEqual(status, 3)
         self.assertIn("The program `show` is not in", said)
@@ -131,14 +131,14 @@ class Missing(Explain):
 
 @needs_nest
 class Summaries(Explain):
-    def test_the_list_of_sheets(self):
+    def test_the_list_of_sheets(self) -> None:
         """The first line is the program's, and that is the list's, on all 1,147 stores."""
         for store, answer in vectors("sheets.vectors"):
             sentences, status = explain(Routine("listed", store), programs)
             self.assertEqual((sentences[0], status), (answer.split("\n")[0], 1 if answer.startswith("refused") else 0))
             self.assertTrue(all(re.match(r"[A-Z].+\.\Z", sentence) for sentence in sentences[1:]), sentences)
 
-    def test_outcomes(self):
+    def test_outcomes(self) -> None:
         for source, said in (
                 (SWEEP, "It nests whole: 1 select, 1 loop and 0 exits, after 7 attempts of at most 19."),
                 (SWEEP, "A run within the turn limits costs at most 7,619, the figure."),
@@ -150,7 +150,7 @@ class Summaries(Explain):
             self.assertEqual(status, 0)
             self.assertIn(said, text)
 
-    def test_a_figure_too_great(self):
+    def test_a_figure_too_great(self) -> None:
         status, text = self.explain(SWEEP.replace(b"limit 401", b"limit 65535").replace(b"cost 12", b"cost 65535"), ".routine")
         self.assertEqual(status, 1)
         self.assertIn("refused 11 0", text)

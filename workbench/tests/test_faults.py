@@ -21,24 +21,24 @@ class AllAtOnce(unittest.TestCase):
     def places(self, source: bytes) -> list[tuple[int, int]]:
         return [(line, column) for line, column, _ in faults_of(source)]
 
-    def test_names_values_and_numbers(self):
+    def test_names_values_and_numbers(self) -> None:
         source = SWEEP.replace(b"below(next", b"belw(nxt").replace(b"test 2", b"test 70000").replace(b"limit 401", b"limit 0")
         self.assertEqual(self.places(source), [(6, 25), (12, 33), (15, 12), (15, 17)])
 
-    def test_lines_that_do_not_parse(self):
+    def test_lines_that_do_not_parse(self) -> None:
         source = SWEEP.replace(b"type hertz 2", b"type hertz two").replace(b"branch to sweep", b"branch tow sweep").replace(
             b"    set(f)\n", b"    set(f\n").replace(b"region done", b"region done 7")
         self.assertEqual(self.places(source), [(2, 12), (11, 12), (13, 10), (18, 13)])
 
-    def test_both_kinds(self):
+    def test_both_kinds(self) -> None:
         source = SWEEP.replace(b"branch to sweep", b"branch tow sweep").replace(b"belw", b"below").replace(b"add(f", b"ad(f")
         self.assertEqual(self.places(source), [(11, 12), (14, 12)])
 
-    def test_regions_without_a_terminator(self):
+    def test_regions_without_a_terminator(self) -> None:
         source = b"record\nregion a\nregion b\nregion c\n    retrun\n"
         self.assertEqual(self.places(source), [(3, 1), (4, 1), (5, 5)])
 
-    def test_what_only_follows_from_a_fault_is_not_told(self):
+    def test_what_only_follows_from_a_fault_is_not_told(self) -> None:
         """A name that a faulty line would have defined is not unknown as well."""
         for good, bad in ((b"opcode add 3 : hertz cost 2", b"opcode add three : hertz cost 2"), (b"type hertz 2", b"type hertz"),
                           (b"constant from : hertz", b"constant from hertz"), (b"next = add(f, step)", b"next = add(f step)"),
@@ -49,7 +49,7 @@ class AllAtOnce(unittest.TestCase):
                 self.assertIn(good, SWEEP)
                 self.assertEqual(len(faults_of(SWEEP.replace(good, bad))), 1, faults_of(SWEEP.replace(good, bad)))
 
-    def test_one_bad_line_is_one_fault(self):
+    def test_one_bad_line_is_one_fault(self) -> None:
         """Each line of the catalogue's sources, spoilt at its end: one fault, at that line."""
         spoilt = 0
         for name, source in catalogue().items():
@@ -62,12 +62,12 @@ class AllAtOnce(unittest.TestCase):
                     spoilt += 1
         self.assertGreater(spoilt, 3000)
 
-    def test_the_command_tells_them_all(self):
+    def test_the_command_tells_them_all(self) -> None:
         status, store, said = command("assemble", data=SWEEP.replace(b"below(next", b"belw(nxt"))
         self.assertEqual((status, store), (1, b""))
         self.assertEqual(re.findall(r"line \d+, column \d+", said), ["line 15, column 12", "line 15, column 17"])
 
-    def test_very_many(self):
+    def test_very_many(self) -> None:
         status, _, said = command("assemble", data=b"record\nregion a\n" + b"    7 cost 0 (\n" * 9000 + b"    return\n")
         self.assertEqual(status, 1)
         self.assertGreater(said.count("found "), 40)
@@ -75,14 +75,14 @@ class AllAtOnce(unittest.TestCase):
 
 
 class Places(unittest.TestCase):
-    def test_a_byte_order_mark_is_read_over(self):
+    def test_a_byte_order_mark_is_read_over(self) -> None:
         self.assertEqual(assemble(b"\xef\xbb\xbf" + SWEEP)[0], assemble(SWEEP)[0])
         bad = SWEEP.replace(b"# A comment", b"tipe x 1")
         self.assertEqual(faults_of(b"\xef\xbb\xbf" + bad), faults_of(bad))
         status, _, said = command("assemble", data=b"\xef\xbb\xbf" + bad)
         self.assertEqual((status, said.split("\n")[1:3]), (1, ["    tipe x 1", "    ^"]))
 
-    def test_too_many_regions(self):
+    def test_too_many_regions(self) -> None:
         source = b"record\n" + b"".join(b"region r%d\n    return\n" % k for k in range(35))
         self.assertEqual(faults_of(source), [(2 * 32 + 2, 8, "found one region more than 32, expected at most 32")])
 
@@ -92,7 +92,7 @@ class Printing(unittest.TestCase):
 
     NASTY = "red\x1b[31m\x07\u202e\nname"
 
-    def setUp(self):
+    def setUp(self) -> None:
         folder = tempfile.TemporaryDirectory()
         self.addCleanup(folder.cleanup)
         self.folder = folder.name
@@ -105,7 +105,7 @@ class Printing(unittest.TestCase):
         self.assertIn(r"red\x1b[31m\x07\u202e\nname", text)
 
     @needs_nest
-    def test_file_names(self):
+    def test_file_names(self) -> None:
         path = put(os.path.join(self.folder, self.NASTY + ".routine"), b"record\nregion a\nretrun\n")
         page = os.path.join(self.folder, "p.html")
         self.shown(1, "explain", path)
@@ -116,7 +116,7 @@ class Printing(unittest.TestCase):
         self.shown(2, "report", path, "-o", path)
 
     @needs_nest
-    def test_arguments_programs_and_sheets(self):
+    def test_arguments_programs_and_sheets(self) -> None:
         source = os.path.join(CATALOGUE, "case-a.routine")
         self.shown(2, "explain", source, "--" + self.NASTY)
         self.shown(3, "explain", source, "--programs", os.path.join(self.folder, self.NASTY))
@@ -127,7 +127,7 @@ class Printing(unittest.TestCase):
 
 @needs_show
 class Check(unittest.TestCase):
-    def test_the_check_that_would_fit_is_not_offered(self):
+    def test_the_check_that_would_fit_is_not_offered(self) -> None:
         store = bytearray(assemble(SWEEP)[0])
         right = int.from_bytes(store[508:], "little")
         store[40] ^= 1
@@ -158,7 +158,7 @@ class Streams(unittest.TestCase):
         with self.subTest(line=line):
             self.assertEqual(self.run_shell(line), (status, said))
 
-    def test_input(self):
+    def test_input(self) -> None:
         for command_line in "assemble", "explain -", "report - -o p.html":
             self.says(2, "standard input: it is closed\n", f"{command_line} <&-")
             self.says(2, "standard input: Is a directory\n", f"{command_line} < /")
@@ -170,7 +170,7 @@ class Streams(unittest.TestCase):
         self.says(1, "", "explain - < /dev/zero")
         self.says(1, "", "explain /dev/zero | grep -q 'The store has more than 262,144 bytes' && exit 1")
 
-    def test_output(self):
+    def test_output(self) -> None:
         closed, full = "standard output: it is closed\n", "standard output: No space left on device\n"
         for line in "assemble < $R", "explain $R", "check-catalogue $C", "$RUKVETTA nest $R", "$RUKVETTA --version":
             self.says(2, closed, f"{line} >&-")
@@ -179,6 +179,6 @@ class Streams(unittest.TestCase):
         self.says(0, "", "report $R -o p.html <&- >&- 2>&-")
         self.says(1, "", "assemble < /dev/null 2>&-")
 
-    def test_a_reader_that_leaves(self):
+    def test_a_reader_that_leaves(self) -> None:
         for line in "explain $R", "check-catalogue $C", "$RUKVETTA nest $R":
             self.says(0, "", f"{line} | true")

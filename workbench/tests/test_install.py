@@ -28,7 +28,7 @@ def all_files(folder: str) -> list[str]:
 
 
 class Folder(unittest.TestCase):
-    def setUp(self):
+    def setUp(self) -> None:
         folder = tempfile.TemporaryDirectory()
         self.addCleanup(folder.cleanup)
         self.folder = os.path.realpath(folder.name)
@@ -50,7 +50,7 @@ class Folder(unittest.TestCase):
 @needs_nest
 @needs_library
 class Install(Folder):
-    def test_what_is_there_works_and_goes_again(self):
+    def test_what_is_there_works_and_goes_again(self) -> None:
         status, said = self.install(self.prefix)
         self.assertEqual(status, 0, said)
         version = read(ROOT, "VERSION").strip()
@@ -74,7 +74,7 @@ class Install(Folder):
         self.assertEqual(self.uninstall(self.prefix)[0], 3)
 
     @unittest.skipUnless(shutil.which("cc") and shutil.which("pkg-config"), "there is no cc or no pkg-config here")
-    def test_a_program_in_c(self):
+    def test_a_program_in_c(self) -> None:
         prefix = os.path.join(self.folder, "prefix")        # pkg-config's flags are words of a shell
         self.assertEqual(self.install(prefix)[0], 0)
         found = {"PKG_CONFIG_PATH": os.path.join(prefix, "lib", "pkgconfig")}
@@ -87,7 +87,7 @@ class Install(Folder):
         put(os.path.join(self.folder, "sheet.c"), b"#include <rukvetta_sheet.h>\nint main(void) { return 0; }\n")
         self.assertEqual(self.run_it("cc", "-std=c99", "sheet.c", *flags.split(), "-o", "sheet"), (0, ""))
 
-    def test_what_was_there_stays(self):
+    def test_what_was_there_stays(self) -> None:
         os.makedirs(os.path.join(self.prefix, "bin"))
         put(os.path.join(self.prefix, "bin", "other"), b"mine")
         self.assertEqual(self.install(self.prefix)[0], 0)
@@ -99,7 +99,7 @@ class Install(Folder):
         self.assertIn("bin/nest is there already", said)
         self.assertEqual(all_files(self.prefix), ["bin/nest", "bin/other"])
 
-    def test_in_front_of_the_prefix(self):
+    def test_in_front_of_the_prefix(self) -> None:
         stage = os.path.join(self.folder, "stage")
         self.assertEqual(self.install("/usr/local", DESTDIR=stage)[0], 0)
         self.assertIn("prefix=/usr/local\n", read(stage, "usr/local/lib/pkgconfig/rukvetta.pc"))
@@ -115,7 +115,7 @@ class Archive(Folder):
     """What `git archive` makes has all that the commands and the pages' first lines need."""
 
     @needs_nest
-    def test_it_works_without_the_repository(self):
+    def test_it_works_without_the_repository(self) -> None:
         archive = subprocess.run(["git", "-C", ROOT, "archive", "HEAD"], capture_output=True, check=True).stdout
         put(os.path.join(self.folder, "a.tar"), archive)
         self.assertEqual(self.run_it("tar", "-xf", "a.tar"), (0, ""))
@@ -127,7 +127,7 @@ class Archive(Folder):
 
 
 class Missing(Folder):
-    def test_what_is_not_built(self):
+    def test_what_is_not_built(self) -> None:
         for name, variables in (("nest", {"RUKVETTA_PROGRAMS": self.folder}), ("librukvetta.a", {"RUKVETTA_LIBRARY": self.folder})):
             if name == "nest" or programs.has("nest"):
                 status, said = self.install(self.prefix, **variables)
@@ -135,7 +135,7 @@ class Missing(Folder):
                 self.assertRegex(said, rf"there is no {name} in .*; .* builds it")
                 self.assertFalse(os.path.exists(self.prefix))
 
-    def test_wrong_use(self):
+    def test_wrong_use(self) -> None:
         for words in (), ("",), ("--nonsense",), ("a", "b"):
             self.assertEqual(self.install(*words)[0], 2, words)
             self.assertEqual(self.uninstall(*words)[0], 2, words)
@@ -148,7 +148,7 @@ class Manual(unittest.TestCase):
         """A page without the marks of its form."""
         return re.sub(r"\\f.|\\(?=-)", "", read(MAN, name))
 
-    def test_every_command_and_option(self):
+    def test_every_command_and_option(self) -> None:
         text = self.plain("rukvetta.1")
         for name in command.COMMANDS:
             self.assertRegex(text, rf"(?m)^\.B rukvetta {name}$")
@@ -161,7 +161,7 @@ class Manual(unittest.TestCase):
         named = set(re.findall(r"(?m)^\.BI?R? (?:-h \", \" )?(--[a-z]+)", text))
         self.assertLessEqual(named, options | {"--version"})
 
-    def test_every_function_of_the_header(self):
+    def test_every_function_of_the_header(self) -> None:
         header = read(ROOT, "interface", "rukvetta.h")
         functions = set(re.findall(r"\b(rukvetta_\w+)\(", header))
         self.assertGreaterEqual(len(functions), 6)
@@ -182,7 +182,7 @@ class Manual(unittest.TestCase):
             self.assertIn(name, page)
 
     @unittest.skipUnless(shutil.which("man"), "there is no man here")
-    def test_they_can_be_set(self):
+    def test_they_can_be_set(self) -> None:
         for name in sorted(os.listdir(MAN)):
             if name != "rukvetta_accept.3":         # which leads to another
                 done = subprocess.run(["man", "--warnings=w", "-E", "UTF-8", "-l", os.path.join(MAN, name)], capture_output=True,
@@ -190,7 +190,7 @@ class Manual(unittest.TestCase):
                 self.assertEqual((done.returncode, done.stderr), (0, b""), name)
                 self.assertIn(b"Rukvetta", done.stdout)
 
-    def test_sentences_are_short(self):
+    def test_sentences_are_short(self) -> None:
         for name in sorted(os.listdir(MAN)):
             text = re.sub(r"(?m)^\.(TH|SH|TP|PP|nf|fi|br|so).*$", ". ", self.plain(name))
             text = re.sub(r"(?m)^\.[A-Z]+ ", "", text)

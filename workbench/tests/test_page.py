@@ -110,7 +110,7 @@ class Page(browser.InBrowser):
 
     # Names.
 
-    def test_a_name_means_one_value(self):
+    def test_a_name_means_one_value(self) -> None:
         """In ramp-nested the sheet's i2.0 is the record's i2.1, `l`: the record's i2.0, `f`, was left out of the loop."""
         self.open(catalogue_texts("ramp-nested"))
         nest = self.browser.texts("svg.nest text")
@@ -122,13 +122,13 @@ class Page(browser.InBrowser):
         self.assertEqual(set(self.browser.run("return [...document.querySelectorAll('.moved')].map(e => e.textContent + e.dataset.is)")),
                          {"i2.0l"})
 
-    def test_a_store_without_names(self):
+    def test_a_store_without_names(self) -> None:
         self.open({**catalogue_texts("ramp-nested"), "names": ""})
         nest = self.browser.texts("svg.nest text")
         self.assertIn("i2.1 = c3", nest)
         self.assertFalse([text for text in nest if "i2.0" in text])
 
-    def test_which_input_is_not_known(self):
+    def test_which_input_is_not_known(self) -> None:
         """Two inputs of one type that nothing reads, of which one stays: it has a word of its own."""
         record = "record regions 3 entry 0 test 0 constants 2\nregion 0 in - limit 1\nbranch to 1\npass 1 in c0,c0\nexits -\n" \
                  "region 1 in 2,2 limit 3\nselect bool true to 1,2\npass 1 in i1.0,c0\npass 2 in -\nexits 2\n" \
@@ -142,12 +142,12 @@ class Page(browser.InBrowser):
 
     # The dearest path.
 
-    def test_the_path_goes_on_behind_a_loop_of_several_regions(self):
+    def test_the_path_goes_on_behind_a_loop_of_several_regions(self) -> None:
         self.open(source_texts(BEHIND))
         self.assertEqual(self.browser.count(".legend.wrong"), 0)
         self.assertEqual(sorted(self.dear_edges()), ["0>1", "1>2", "2>1", "2>3", "3>4"])
 
-    def test_the_path_of_each_whole_routine_comes_to_its_end(self):
+    def test_the_path_of_each_whole_routine_comes_to_its_end(self) -> None:
         """From the entry to a region that returns, along marked arrows alone. (In sweep-markers the dearest cases of two selects
         are such that no single run takes both.)"""
         for name in "ramp-nested", "ramp-triple", "sweep-stepped", "calibration-half", "burst-train":
@@ -166,28 +166,28 @@ class Page(browser.InBrowser):
 
     # What can be read.
 
-    def test_the_graph_shows_every_limit(self):
+    def test_the_graph_shows_every_limit(self) -> None:
         self.open(source_texts(ONE_TURN))
         self.assertIn("≤ 1 turn, exits c", self.browser.texts("#graph-1 text"))
         self.open(catalogue_texts("ramp-nested"))
         for region, text in (1, "≤ 101 turns, exits done"), (2, "≤ 21 turns, exits step-on"):
             self.assertIn(text, self.browser.texts(f"#graph-{region} text"))
 
-    def test_no_line_crosses_a_text(self):
+    def test_no_line_crosses_a_text(self) -> None:
         for name in "front-panel", "case-a", "psk-eight", "sweep-markers", "power-up", "fsk-four", "hop-table", "self-test":
             with self.subTest(name=name):
                 self.open(catalogue_texts(name))
                 self.assertEqual(self.browser.run(CROSSED), [])
                 self.assertEqual(self.browser.run(STRUCK_LABELS), 0)
 
-    def test_times_stand_beside_their_clock(self):
+    def test_times_stand_beside_their_clock(self) -> None:
         texts = catalogue_texts("case-a")
         self.open(texts, clock=1e7, clockText="10 MHz")
         self.assertEqual(self.browser.texts("[data-fact=figure] dd"), ["11 = 1.1 µs at 10 MHz"])
         self.open(texts)
         self.assertEqual(self.browser.texts("[data-fact=figure] dd"), ["11"])
 
-    def test_32_regions(self):
+    def test_32_regions(self) -> None:
         """Text of at least 10 pixels at first; all of it in the frame by `fit`; larger and smaller; moved by dragging."""
         self.open(program_texts(store_of_32()))
         self.assertEqual(self.browser.count("svg.graph a.box"), 32)
@@ -207,7 +207,7 @@ class Page(browser.InBrowser):
         self.assertAlmostEqual(self.scale(), 0.8, 2)
         self.assertLess(small, 0.8)
 
-    def test_dragging_moves_the_picture(self):
+    def test_dragging_moves_the_picture(self) -> None:
         self.open(program_texts(store_of_32()))
         self.click("1:1")
         before = self.scrolled()
@@ -235,7 +235,7 @@ class Times(unittest.TestCase):
     """Tables have times only with a clock."""
 
     @needs_nest
-    def test_tables(self):
+    def test_tables(self) -> None:
         with tempfile.TemporaryDirectory() as folder:
             put(os.path.join(folder, "a.routine"), BEHIND)
             put(os.path.join(folder, "a.sheet"), programs.nest(assemble(BEHIND)[0]).encode())

@@ -16,7 +16,7 @@ needs_browser = unittest.skipIf(browser.missing(), browser.missing())
 LEFTOVERS = "sweep-resume", "trigger-chase"
 
 
-def catalogue_texts(name):
+def catalogue_texts(name: str) -> dict[str, str]:
     """What a page of the catalogue is drawn from, with the sheet that is checked in in place of `nest`."""
     routine = load(os.path.join(CATALOGUE, name + ".routine"))
     with open(os.path.join(CATALOGUE, name + ".sheet"), encoding="ascii") as sheet:
@@ -26,14 +26,14 @@ def catalogue_texts(name):
 @needs_show
 @needs_browser
 class Page(browser.InBrowser):
-    def open(self, name, texts=None, dark=False):
+    def open(self, name: str, texts: dict[str, str] | None = None, dark: bool = False) -> str:
         path = os.path.join(self.folder.name, name + ".html")
         with open(path, "w", encoding="utf-8") as file:
             file.write(routine_page(name, texts or catalogue_texts(name), {"clock": 1e6, "clockText": "1 MHz", "words": 71}))
         self.assertEqual([], self.browser.open(path, dark))
         return path
 
-    def linked(self):
+    def linked(self) -> tuple[int, int]:
         """Every line of the sheet leads to a box that can be seen, every box to a line; no text stands out of its box."""
         lines, boxes, lost, out = self.browser.run("""
             const rows = [...document.querySelectorAll('li[data-box]')], boxes = [...document.querySelectorAll('svg a.box')];
@@ -52,7 +52,7 @@ class Page(browser.InBrowser):
         self.assertEqual(([], []), (lost, out))
         return lines, boxes
 
-    def test_case_a(self):
+    def test_case_a(self) -> None:
         self.open("case-a")
         look = self.browser
         self.assertEqual(look.texts("h1, .badge"), ["case-a", "whole"])
@@ -66,7 +66,7 @@ class Page(browser.InBrowser):
         self.assertEqual(look.texts("li a")[:2], ["region 0 in - kids 0,3 out n3.0", "block 0 0.0/7/1/-"])
         self.assertEqual(self.linked(), (7 + 19, 4 + 7))
 
-    def test_the_dearest_path_is_marked_in_both(self):
+    def test_the_dearest_path_is_marked_in_both(self) -> None:
         self.open("case-a")
         marked = "return [...document.querySelectorAll(arguments[0])].map(e => e.id)"
         self.assertEqual(self.browser.run(marked, "svg.graph a.dear"), ["graph-0", "graph-2", "graph-3"])
@@ -74,14 +74,14 @@ class Page(browser.InBrowser):
         self.assertEqual(self.browser.run(marked, "svg.nest a.dear"),
                          ["nest-region-0", "nest-node-0", "nest-node-3", "nest-region-2", "nest-node-2"])
 
-    def test_a_way_back_is_marked_where_the_path_takes_it(self):
+    def test_a_way_back_is_marked_where_the_path_takes_it(self) -> None:
         labels = "return [...document.querySelectorAll('svg.graph .edge-label.dear text')].map(e => e.textContent)"
         self.open("sweep-stepped")
         self.assertEqual(self.browser.run(labels), ["(from)", "true (next)", "false"])
         self.open("front-panel")        # the key that does nothing leads back too, and is not the dearest
         self.assertEqual(self.browser.run(labels), ["(f0, l0)", "4 (f, l)", "6 (f, l)", "(f, l)"])
 
-    def test_a_region_has_one_colour(self):
+    def test_a_region_has_one_colour(self) -> None:
         fills = """return [...document.querySelectorAll(arguments[0])].map(e => getComputedStyle(e.querySelector('rect')).fill)"""
         for dark in False, True:
             self.open("sweep-markers", dark=dark)
@@ -89,7 +89,7 @@ class Page(browser.InBrowser):
             self.assertEqual(len(set(graph)), 7)
             self.assertEqual(self.browser.run(fills, "#nest-region-3, #nest-node-2"), [graph[3]] * 2)
 
-    def test_light_and_dark(self):
+    def test_light_and_dark(self) -> None:
         ground = "return getComputedStyle(document.body).backgroundColor"
         seen = []
         for dark in False, True:
@@ -97,14 +97,14 @@ class Page(browser.InBrowser):
             seen.append(self.browser.run(ground))
         self.assertEqual(seen, ["rgb(246, 245, 242)", "rgb(20, 23, 27)"])
 
-    def test_a_loop(self):
+    def test_a_loop(self) -> None:
         self.open("sweep-stepped")
         self.assertEqual(self.browser.texts("#nest-node-4 text"),
                          ["loop sweep", "100%", "f = from", "f ← next", "repeat while more", "≤ 401 turns"])
         self.assertIn("next = add(f, step)", self.browser.texts("svg.nest text"))
         self.assertEqual(self.browser.count("svg.graph .edge.back"), 1)
 
-    def test_an_exit_has_the_colour_of_its_region(self):
+    def test_an_exit_has_the_colour_of_its_region(self) -> None:
         self.open("self-test")
         for region, text in (2, "exit passed"), (3, "exit failed"):
             hue, nest = self.browser.run("""
@@ -112,7 +112,7 @@ class Page(browser.InBrowser):
                 return [document.getElementById('graph-' + arguments[0]).style.cssText, exit.style.cssText]""", region, text)
             self.assertEqual(hue, nest)
 
-    def test_a_leftover_shows_its_branches(self):
+    def test_a_leftover_shows_its_branches(self) -> None:
         for name in LEFTOVERS:
             self.open(name)
             sheet = catalogue_texts(name)["sheet"]
@@ -122,7 +122,7 @@ class Page(browser.InBrowser):
         for text in "→ left", "→ right", "→ both-done", "first is true", "1 of 2 edges":
             self.assertIn(text, texts)
 
-    def test_untouched_and_refused(self):
+    def test_untouched_and_refused(self) -> None:
         self.open("monitor")
         self.assertEqual((self.browser.count("svg.graph"), self.browser.count("svg.nest")), (1, 0))
         texts = {**catalogue_texts("calibration"), "explained": "Too dear.\nAnd <b>why</b>"}
@@ -131,30 +131,30 @@ class Page(browser.InBrowser):
         self.open("bad", {"record": "", "sheet": "refused 1 0\n", "names": "", "explained": "Empty."})
         self.assertEqual(self.browser.count("svg"), 0)
 
-    def test_pointing_and_links(self):
+    def test_pointing_and_links(self) -> None:
         self.open("case-a")
         self.browser.run("document.querySelector('#line-4').dispatchEvent(new MouseEvent('mouseenter'))")
         self.assertEqual(self.browser.run("return document.querySelector('.box.pointed').id"), "nest-node-3")
         self.browser.run("document.querySelector('#line-4 a').click()")
         self.assertEqual(self.browser.run("return document.querySelector(':target').id"), "nest-node-3")
 
-    def test_where_the_figure_is_another_no_path_is_marked(self):
+    def test_where_the_figure_is_another_no_path_is_marked(self) -> None:
         texts = catalogue_texts("case-a")
         self.open("case-a", {**texts, "sheet": texts["sheet"].replace("figure 11", "figure 12")})
         self.assertEqual(self.browser.count(".legend.wrong"), 1)
         self.assertEqual(self.browser.count(".stripe, .dear, text.share"), 0)
 
-    def test_nothing_is_fetched(self):
+    def test_nothing_is_fetched(self) -> None:
         self.open("case-a")
         self.assertEqual(self.browser.run("return performance.getEntriesByType('resource').length"), 0)
 
-    def test_paper(self):
+    def test_paper(self) -> None:
         for name in "case-a", "case-b", "sweep-stepped", "sweep-markers", "self-test", "trigger-chase", "ramp-nested", "front-panel":
             self.open(name, dark=True)
             self.assertEqual(self.browser.printed()[1], 1, name)
 
     @needs_nest
-    def test_the_whole_catalogue(self):
+    def test_the_whole_catalogue(self) -> None:
         """By the command, with an index: each routine's page has the sheet that is checked in, line for line."""
         names = sorted(name[:-8] for name in os.listdir(CATALOGUE) if name.endswith(".routine"))
         self.assertGreaterEqual(len(names), 24)
@@ -174,7 +174,7 @@ class Page(browser.InBrowser):
                 self.assertEqual("\n".join(sheet) + "\n", catalogue_texts(name)["sheet"])
                 self.assertEqual(self.browser.printed()[1], 1)
 
-    def test_the_lists(self):
+    def test_the_lists(self) -> None:
         """Every eighth sheet of the fixed list: all lines linked, and the shares add up to the program's figure."""
         self.open("case-a")
         drawn = 0
@@ -193,7 +193,7 @@ class Page(browser.InBrowser):
 
 @needs_nest
 class Command(unittest.TestCase):
-    def test_a_page_and_an_index(self):
+    def test_a_page_and_an_index(self) -> None:
         with tempfile.TemporaryDirectory() as folder:
             paths = [os.path.join(CATALOGUE, name + ".routine") for name in ("case-a", "monitor", "calibration")]
             one, index = os.path.join(folder, "one.html"), os.path.join(folder, "all.html")
@@ -211,7 +211,7 @@ class Command(unittest.TestCase):
             with open(os.path.join(folder, "all", "calibration.html"), encoding="utf-8") as page:
                 self.assertIn("the greatest are: region 1 (frequency) 401, region 3 (phase) 360, region 2 (level) 61.", page.read())
 
-    def test_bad_sources_and_names(self):
+    def test_bad_sources_and_names(self) -> None:
         with tempfile.TemporaryDirectory() as folder:
             bad = os.path.join(folder, "bad.routine")
             with open(bad, "w", encoding="ascii") as file:
@@ -224,7 +224,7 @@ class Command(unittest.TestCase):
 
 
 class Missing(unittest.TestCase):
-    def test_without_nest(self):
+    def test_without_nest(self) -> None:
         with tempfile.TemporaryDirectory() as folder:
             source, page = os.path.join(CATALOGUE, "case-a.routine"), os.path.join(folder, "p.html")
             status, _, said = command("report", source, "-o", page, folder=folder)
