@@ -4,10 +4,18 @@ from __future__ import annotations
 
 import difflib
 from collections.abc import Callable, Hashable, Iterator, Sequence
+from dataclasses import dataclass
 from typing import TypeVar
 
 Item = TypeVar("Item")
-Change = tuple[str, str]        # `-` for what was there, `+` for what is now, a blank for a heading; and the text
+
+
+@dataclass(frozen=True)
+class Change:
+    """A line that differs: `-` for what was there, `+` for what is now, a blank for a heading; and the text."""
+
+    sign: str
+    text: str
 
 
 def paired(old: Sequence[Item], new: Sequence[Item], key: Callable[[Item], Hashable],
@@ -25,5 +33,5 @@ def changed_lines(old: Sequence[str], new: Sequence[str]) -> Iterator[Change]:
     """The lines that differ."""
     for what, a, a_end, b, b_end in difflib.SequenceMatcher(None, old, new, autojunk=False).get_opcodes():
         if what != "equal":
-            yield from (("-", line) for line in old[a:a_end])
-            yield from (("+", line) for line in new[b:b_end])
+            yield from (Change("-", line) for line in old[a:a_end])
+            yield from (Change("+", line) for line in new[b:b_end])

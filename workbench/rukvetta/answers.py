@@ -8,6 +8,7 @@ import sys
 from dataclasses import dataclass, field
 from typing import Any
 
+from .alignment import Change
 from .facts import Facts
 from .faults import Fault, escaped
 from .programs import refusal
@@ -16,12 +17,26 @@ from .version import version
 SCHEMA = 1
 
 
-Told = dict[str, Any]       # a fault: line, column and message
+@dataclass(frozen=True)
+class Told:
+    """A fault of a source."""
+
+    line: int
+    column: int
+    message: str
+
+
+@dataclass(frozen=True)
+class Numbers:
+    """The numbers of a refusal: its own, and the word's."""
+
+    number: int
+    word: int
 
 
 def told(fault: Fault) -> list[Told]:
     """The faults of a source as plain data."""
-    return [{"line": one.line, "column": one.column, "message": one.message} for one in fault.all()]
+    return [Told(one.line, one.column, one.message) for one in fault.all()]
 
 
 @dataclass
@@ -29,7 +44,7 @@ class Answer:
     """What is known of one file. What a command does not ask for is None or empty."""
     file: str
     outcome: str | None = None          # untouched, whole, closed, leftover or refused
-    refusal: dict[str, int] | None = None
+    refusal: Numbers | None = None
     figure: int | None = None
     attempts: int | None = None
     twice: int | None = None
@@ -54,7 +69,7 @@ class Answer:
     def take_verdict(self, outcome: str, figure: int | None, attempts: int | None, twice: int | None) -> None:
         numbers = refusal(outcome)
         self.outcome = "refused" if numbers else outcome
-        self.refusal = {"number": numbers[0], "word": numbers[1]} if numbers else None
+        self.refusal = Numbers(*numbers) if numbers else None
         self.figure, self.attempts, self.twice = figure, attempts, twice
 
     def take_faults(self, fault: Fault) -> None:
@@ -68,7 +83,7 @@ class Output:
     as_json: bool = False
     routines: list[Answer] = field(default_factory=list)
     messages: list[str] = field(default_factory=list)
-    changes: list[dict[str, str]] = field(default_factory=list)
+    changes: list[Change] = field(default_factory=list)
     passed: int | None = None
     failed: int | None = None
 
@@ -90,7 +105,7 @@ class Output:
 
     def document(self, status: int) -> dict[str, Any]:
         return {"schema": SCHEMA, "version": version(), "command": self.command, "status": status, "messages": self.messages,
-                "routines": [dataclasses.asdict(one) for one in self.routines], "changes": self.changes,
+                "routines": [dataclasses.asdict(one) for one in self.routines], "changes": [dataclasses.asdict(one) for one in self.changes],
                 "passed": self.passed, "failed": self.failed}
 
     def finish(self, status: int) -> int:

@@ -187,8 +187,8 @@ class Checker:
             self.output.say(f"\n{path}, new:\n  + {(done.sheet or '').splitlines()[0]}")
             return
         self.output.say(f"\n{path}:")
-        for sign, text in sheet_changes(old, done.sheet or ""):
-            self.output.say(f"  {sign} {text}")
+        for one in sheet_changes(old, done.sheet or ""):
+            self.output.say(f"  {one.sign} {one.text}")
 
     def agreed(self) -> bool:
         """Whether the sheets shall be written: by --yes, or by an answer on a terminal."""

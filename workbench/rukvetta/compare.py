@@ -210,12 +210,12 @@ def record_changes(old: Side, new: Side) -> Iterator[Change]:
         lines = [] if other is None else list(region_lines(other, new.record.regions[other], second))
         changes = list(changed_lines(list(region_lines(number, region, first)), lines))
         if changes:
-            yield " ", f"region {first.region(number)}" + (", which is gone" if other is None else "")
+            yield Change(" ", f"region {first.region(number)}" + (", which is gone" if other is None else ""))
             yield from changes
     for number, region in enumerate(new.record.regions):
         if number not in pairs.regions:
-            yield " ", f"region {second.region(number)}, which is new"
-            yield from (("+", line) for line in region_lines(number, region, second))
+            yield Change(" ", f"region {second.region(number)}, which is new")
+            yield from (Change("+", line) for line in region_lines(number, region, second))
 
 
 def is_sheet(path: str, data: bytes) -> bool:
@@ -264,7 +264,7 @@ def perform(options: argparse.Namespace, output: Output) -> int:
     except BadSource as fault:
         output.complain(str(fault))
         return REFUSED
-    for sign, text in changes:
-        output.changes.append({"sign": sign, "text": text})
-        output.say(f"{sign} {text}" if sign.strip() else f"{text}:")
+    for one in changes:
+        output.changes.append(one)
+        output.say(f"{one.sign} {one.text}" if one.sign.strip() else f"{one.text}:")
     return REFUSED if changes else 0

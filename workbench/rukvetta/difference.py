@@ -193,4 +193,4 @@ def sheet_changes(old: str, new: str) -> list[Change]:
         lines = (sheet_lines(one, Same()), sheet_lines(other, Matches(one, other)))
     except (IndexError, ValueError):        # a text that is no sheet: line by line
         lines = (old.splitlines(), new.splitlines())
-    return [(sign, escaped(text)) for sign, text in changed_lines(*lines)]
+    return [Change(one.sign, escaped(one.text)) for one in changed_lines(*lines)]

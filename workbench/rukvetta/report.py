@@ -6,6 +6,7 @@ import argparse
 import errno
 import os
 from collections.abc import Iterable, Iterator
+from dataclasses import dataclass
 
 from .answers import Answer, Output
 from .explain import Differs, named, refused_text
@@ -48,6 +49,15 @@ def page_names(paths: Iterable[str]) -> Iterator[str]:
         yield stem + (f"-{used[stem]}" if used[stem] > 1 else "") + ".html"
 
 
+@dataclass(frozen=True)
+class Drawn:
+    """A routine's page, with what is told of it."""
+
+    page: str
+    facts: Facts
+    answer: Answer
+
+
 class Reporter:
     """Draws the routines of a command, and notes its status."""
 
@@ -72,7 +82,7 @@ class Reporter:
         need_dagre()
         return None if missing else found
 
-    def drawn(self, path: str, data: bytes) -> tuple[str, Facts, Answer] | None:
+    def drawn(self, path: str, data: bytes) -> Drawn | None:
         """A routine's page and facts; None where there is none, which is told. A refusal is told too."""
         answer = self.output.answer(path)
         try:
@@ -87,7 +97,7 @@ class Reporter:
         if facts.said.refused:
             self.status, answer.wrong = REFUSED, facts.said.outcome
             self.output.complain(f"{escaped(path)}: {facts.said.outcome}")
-        return page, facts, answer
+        return Drawn(page, facts, answer)
 
     def write(self, path: str, page: str, answer: Answer | None = None) -> None:
         replace_file(os.path.realpath(path), page.encode("utf-8"))
@@ -97,7 +107,7 @@ class Reporter:
     def one(self, path: str, data: bytes) -> None:
         drawn = self.drawn(path, data)
         if drawn:
-            self.write(self.options.output, drawn[0], drawn[2])
+            self.write(self.options.output, drawn.page, drawn.answer)
 
     def index(self, files: list[tuple[str, bytes]]) -> None:
         """A page for each routine in a folder beside the index. What does not assemble is told and left out."""
@@ -108,9 +118,8 @@ class Reporter:
         for (path, data), name in tracked(named_files, len(named_files)):
             drawn = self.drawn(path, data)
             if drawn:
-                page, facts, answer = drawn
-                self.write(os.path.join(folder, name), page, answer)
-                cells = facts.cells(self.options.clock)
+                self.write(os.path.join(folder, name), drawn.page, drawn.answer)
+                cells = drawn.facts.cells(self.options.clock)
                 rows.append(((cells[0], f"{os.path.basename(folder)}/{name}"), *cells[1:]))
         self.write(self.options.output, index_page(name_of(self.options.output), rows))
 
