@@ -18,8 +18,9 @@ class Change:
     text: str
 
 
-def paired(old: Sequence[Item], new: Sequence[Item], key: Callable[[Item], Hashable],
-           loose: Callable[[Item], Hashable] | None = None) -> Iterator[tuple[Item, Item]]:
+def paired(
+    old: Sequence[Item], new: Sequence[Item], key: Callable[[Item], Hashable], loose: Callable[[Item], Hashable] | None = None
+) -> Iterator[tuple[Item, Item]]:
     """Items of two lists that are the same by a key, in order; between them those that are the same by a looser one."""
     matcher = difflib.SequenceMatcher(None, [key(item) for item in old], [key(item) for item in new], autojunk=False)
     for what, a, a_end, b, b_end in matcher.get_opcodes():

@@ -42,8 +42,9 @@ def told(fault: Fault) -> list[Told]:
 @dataclass
 class Answer:
     """What is known of one file. What a command does not ask for is None or empty."""
+
     file: str
-    outcome: str | None = None          # untouched, whole, closed, leftover or refused
+    outcome: str | None = None  # untouched, whole, closed, leftover or refused
     refusal: Numbers | None = None
     figure: int | None = None
     attempts: int | None = None
@@ -56,8 +57,8 @@ class Answer:
     sheet: list[str] = field(default_factory=list)
     sentences: list[str] = field(default_factory=list)
     faults: list[Told] = field(default_factory=list)
-    wrong: str | None = None            # why it failed, for people
-    written: str | None = None          # the file that was written for it
+    wrong: str | None = None  # why it failed, for people
+    written: str | None = None  # the file that was written for it
 
     def take_facts(self, facts: Facts, clock: float | None = None) -> None:
         said = facts.said
@@ -79,6 +80,7 @@ class Answer:
 @dataclass
 class Output:
     """Where a command's answer goes."""
+
     command: str
     as_json: bool = False
     routines: list[Answer] = field(default_factory=list)
@@ -104,9 +106,17 @@ class Output:
         return self.routines[-1]
 
     def document(self, status: int) -> dict[str, Any]:
-        return {"schema": SCHEMA, "version": version(), "command": self.command, "status": status, "messages": self.messages,
-                "routines": [dataclasses.asdict(one) for one in self.routines], "changes": [dataclasses.asdict(one) for one in self.changes],
-                "passed": self.passed, "failed": self.failed}
+        return {
+            "schema": SCHEMA,
+            "version": version(),
+            "command": self.command,
+            "status": status,
+            "messages": self.messages,
+            "routines": [dataclasses.asdict(one) for one in self.routines],
+            "changes": [dataclasses.asdict(one) for one in self.changes],
+            "passed": self.passed,
+            "failed": self.failed,
+        }
 
     def finish(self, status: int) -> int:
         """Print the document, if one is wanted; answer the status."""

@@ -22,8 +22,10 @@ from .routine import SOURCE, STORE, BadSource, load
 from .sheet import Verdict
 from .streams import replace_file
 
-DESCRIPTION = ("Nests every source (.routine) and store (.store) of a folder and of those in it, and compares each with the sheet "
-               "(.sheet) beside it.")
+DESCRIPTION = (
+    "Nests every source (.routine) and store (.store) of a folder and of those in it, and compares each with the sheet "
+    "(.sheet) beside it."
+)
 WIDTHS = {"outcome": 12, "figure": 13, "attempts": 8, "regions": 7, "words": 5}
 MOST_WORKERS = 64
 
@@ -31,18 +33,20 @@ MOST_WORKERS = 64
 @dataclass
 class Check:
     """One routine's facts and what is wrong with it, or an empty text. `sheet` is what would be written for it, if anything."""
+
     path: str
     facts: Facts
     wrong: str = ""
     sheet: str | None = None
-    faults: list[Told] = field(default_factory=list)        # plain data: what a worker answers is pickled
+    faults: list[Told] = field(default_factory=list)  # plain data: what a worker answers is pickled
 
 
 @dataclass
 class Job:
     """What a worker needs for one file."""
+
     folder: str
-    path: str       # within the folder
+    path: str  # within the folder
     programs: str
 
     def name(self) -> str:
@@ -69,8 +73,10 @@ def compare(path: str, sheet: str) -> str:
     """What is wrong with a sheet beside the one checked in, or an empty text."""
     expected = expected_sheet(path)
     if expected is None and refusal(sheet):
-        return f"{sheet.strip()}, and there is no {escaped(os.path.basename(beside(path)))}; " \
-               "only a sheet written by hand can expect a refusal"
+        return (
+            f"{sheet.strip()}, and there is no {escaped(os.path.basename(beside(path)))}; "
+            "only a sheet written by hand can expect a refusal"
+        )
     if expected is None:
         return f"there is no {escaped(os.path.basename(beside(path)))} beside it"
     if sheet == expected:

@@ -27,14 +27,20 @@ ENDING = """Statuses: 0 good; 1 refused, failed or different; 2 the command is w
 @dataclass(frozen=True)
 class Command:
     """One word behind `rukvetta`."""
+
     description: str
     arguments: Callable[[argparse.ArgumentParser], None]
     perform: Callable[[argparse.Namespace, Output], int]
 
 
 def file_arguments(parser: argparse.ArgumentParser) -> None:
-    parser.add_argument("store", metavar="FILE", nargs="*", default=["-"],
-                        help="a store, or a source that is assembled first; - or nothing for standard input")
+    parser.add_argument(
+        "store",
+        metavar="FILE",
+        nargs="*",
+        default=["-"],
+        help="a store, or a source that is assembled first; - or nothing for standard input",
+    )
     add_option(parser)
 
 
@@ -53,7 +59,7 @@ class Printer:
     def all(self) -> int:
         files = [(path, read_file(path)) for path in self.options.store]
         self.programs.path(self.program)
-        counted = files if sys.stdout.isatty() else tracked(files, len(files))      # on a terminal the text itself is the progress
+        counted = files if sys.stdout.isatty() else tracked(files, len(files))  # on a terminal the text itself is the progress
         for place, (path, data) in enumerate(counted):
             if len(files) > 1:
                 self.output.say("\n" * bool(place) + f"{escaped(path)}:")

@@ -18,22 +18,30 @@ from .routine import BadSource, routine_of
 from .source import read_source
 from .streams import read_file
 
-DESCRIPTION = ("Says in what two stores, sources or sheets differ. Where one of them is a sheet, the other's sheet is compared with it. "
-               "Status 0: no difference; 1: some, or one of them cannot be read.")
+DESCRIPTION = (
+    "Says in what two stores, sources or sheets differ. Where one of them is a sheet, the other's sheet is compared with it. "
+    "Status 0: no difference; 1: some, or one of them cannot be read."
+)
 OUTCOMES = "whole ", "closed ", "leftover ", "untouched ", "refused "
 
 
 @dataclass
 class Side:
     """One of the two: its record, as `show` printed it, and what its source calls things."""
+
     record: r.Record
     names: Names
 
 
 def holds(region: r.Region) -> tuple:
     """What a region holds, without numbers that would move."""
-    return (tuple(region.inputs), region.kind, region.opcode, len(region.targets),
-            tuple(tuple(instruction_key(one) for one in block) for block in region.blocks))
+    return (
+        tuple(region.inputs),
+        region.kind,
+        region.opcode,
+        len(region.targets),
+        tuple(tuple(instruction_key(one) for one in block) for block in region.blocks),
+    )
 
 
 def instruction_key(one: r.Instruction) -> tuple:
@@ -64,8 +72,10 @@ class Pairs:
 
     def free(self) -> tuple[list[int], list[int]]:
         taken = set(self.regions.values())
-        return ([number for number in range(len(self.old.record.regions)) if number not in taken],
-                [number for number in range(len(self.new.record.regions)) if number not in self.regions])
+        return (
+            [number for number in range(len(self.old.record.regions)) if number not in taken],
+            [number for number in range(len(self.new.record.regions)) if number not in self.regions],
+        )
 
     def by_names(self) -> None:
         for name, number in self.new.names.regions.items():

@@ -10,7 +10,7 @@ from dataclasses import dataclass, field
 from .alignment import Change, changed_lines, paired
 from .faults import escaped
 
-NEW = "new"         # in front of the number of what only the new sheet has
+NEW = "new"  # in front of the number of what only the new sheet has
 ITEM = re.compile(r"(\d+)\.(\d+)/(\d+)/(\d+)/(.*)")
 VALUE = re.compile(r"\b([idn])(\d+)\.(\d+)")
 
@@ -18,6 +18,7 @@ VALUE = re.compile(r"\b([idn])(\d+)\.(\d+)")
 @dataclass
 class Part:
     """A line of a sheet with the lines that belong to it."""
+
     words: list[str]
     parts: list[Part] = field(default_factory=list)
 
@@ -35,14 +36,20 @@ class Part:
 
     def shape(self) -> tuple:
         """What it holds, without numbers that nesting gave."""
-        own = tuple(ITEM.sub(r"\3/\4", item) for item in self.items()) if self.kind == "block" else \
-            (self.words[2],) if self.kind in ("select", "exit") else ()
+        own = (
+            tuple(ITEM.sub(r"\3/\4", item) for item in self.items())
+            if self.kind == "block"
+            else (self.words[2],)
+            if self.kind in ("select", "exit")
+            else ()
+        )
         return (self.kind, own, tuple(part.shape() for part in self.parts))
 
 
 @dataclass
 class Sheet:
     """Line 1, the regions that stand by themselves, and the defer lines."""
+
     first: str
     roots: list[Part]
     defers: list[str]
@@ -91,7 +98,7 @@ def read_sheet(text: str) -> Sheet:
             roots.append(reader.region())
     except (IndexError, RecursionError):
         raise ValueError(text) from None
-    return Sheet(first, roots, lines[reader.at:])
+    return Sheet(first, roots, lines[reader.at :])
 
 
 class Matches:
@@ -130,6 +137,7 @@ class Matches:
             if letter == "d":
                 return "d" + self.item(number, index)
             return f"{letter}{self.node(number) if letter == 'n' else self.region(number)}.{index}"
+
         return VALUE.sub(renamed, text)
 
 
@@ -191,6 +199,6 @@ def sheet_changes(old: str, new: str) -> list[Change]:
     try:
         one, other = read_sheet(old), read_sheet(new)
         lines = (sheet_lines(one, Same()), sheet_lines(other, Matches(one, other)))
-    except (IndexError, ValueError):        # a text that is no sheet: line by line
+    except (IndexError, ValueError):  # a text that is no sheet: line by line
         lines = (old.splitlines(), new.splitlines())
     return [Change(one.sign, escaped(one.text)) for one in changed_lines(*lines)]

@@ -18,8 +18,10 @@ from .source import read_source
 from .store import words_of
 from .summary import record_sentences, sheet_sentences
 
-DESCRIPTION = ("Says of a store, or of a source that it assembles first, why it is refused and where, or what it holds. "
-               "Number and word are those of the proved program.")
+DESCRIPTION = (
+    "Says of a store, or of a source that it assembles first, why it is refused and where, or what it holds. "
+    "Number and word are those of the proved program."
+)
 
 
 class Differs(Exception):
@@ -27,8 +29,9 @@ class Differs(Exception):
 
     def __init__(self, answer: str, found: Refused | None) -> None:
         ours = f"refused {found.number} {found.word}: {found.sentence}" if found else "no fault."
-        super().__init__(f"The proved program says `{answer}`; the search for the place found {ours} "
-                         "The program is right, and no place is given.")
+        super().__init__(
+            f"The proved program says `{answer}`; the search for the place found {ours} " "The program is right, and no place is given."
+        )
 
 
 def place_of(store: bytes) -> Refused | None:
@@ -64,14 +67,17 @@ def named(routine: Routine, sentence: str) -> str:
     def with_name(match: re.Match[str]) -> str:
         name = called.get(match[0].lower())
         return f"{match[0]} ({name})" if name else match[0]
+
     return re.sub(r"\b(?:[Rr]egion [0-9]+|c[0-9]+|[id][0-9]+\.[0-9]+)\b", with_name, sentence)
 
 
 def nesting_sentence(number: int, word: int, record: Record) -> str:
     """For the refusals that nesting, figure and output give; the program does not say more than the number."""
     if number == 9:
-        return (f"Nesting the record's {several(len(record.regions), 'region')} would define too much. Fewer ways that cross "
-                "each other, fewer values passed, or two routines in place of one, would be allowed.")
+        return (
+            f"Nesting the record's {several(len(record.regions), 'region')} would define too much. Fewer ways that cross "
+            "each other, fewer values passed, or two routines in place of one, would be allowed."
+        )
     if number == 11:
         dear = sorted(((region.limit, place) for place, region in enumerate(record.regions) if region.limit > 1), reverse=True)
         limits = ", ".join(f"region {place} {limit:,}" for limit, place in dear[:4]) or "none above 1"
@@ -85,7 +91,7 @@ def refused_text(routine: Routine, answer: str, programs: Programs) -> list[str]
     """The sentences for a refusal that a proved program gave."""
     number, word = refusal(answer) or (0, 0)
     found = place_of(routine.store)
-    expected = (number, word) if number <= 8 else None      # the search knows no later ones
+    expected = (number, word) if number <= 8 else None  # the search knows no later ones
     if (found and (found.number, found.word)) != expected:
         raise Differs(answer.strip(), found)
     if found:

@@ -25,8 +25,9 @@ def clock(text: str) -> float:
 
 
 def add_clock(parser: argparse.ArgumentParser) -> None:
-    parser.add_argument("--clock", type=clock, metavar="HERTZ",
-                        help="ticks a second, as 20MHz; a cost of 1 is one tick. Times are told only with it")
+    parser.add_argument(
+        "--clock", type=clock, metavar="HERTZ", help="ticks a second, as 20MHz; a cost of 1 is one tick. Times are told only with it"
+    )
 
 
 def clock_text(hertz: float) -> str:
@@ -54,6 +55,7 @@ def heads(hertz: float | None) -> tuple[str, ...]:
 @dataclass
 class Facts:
     """One routine: its name, what line 1 of its sheet says, how many regions and words its record has."""
+
     name: str
     said: Verdict
     regions: int | None = None
@@ -64,8 +66,13 @@ class Facts:
         figure = self.said.figure
         times = ("-" if figure is None else duration(figure, hertz),) if hertz else ()
         numbers = (self.said.attempts, self.regions, self.words)
-        return (self.name, self.said.outcome, "-" if figure is None else f"{figure:,}", *times,
-                *("-" if number is None else str(number) for number in numbers))
+        return (
+            self.name,
+            self.said.outcome,
+            "-" if figure is None else f"{figure:,}",
+            *times,
+            *("-" if number is None else str(number) for number in numbers),
+        )
 
 
 def facts_of(name: str, store: bytes, shown: str, sheet: str) -> Facts:

@@ -8,7 +8,7 @@ import re
 from collections.abc import Iterable, Iterator
 from typing import Any
 
-MOST_TOLD = 50      # faults of one source; of more the number is told
+MOST_TOLD = 50  # faults of one source; of more the number is told
 
 
 def escaped(text: str) -> str:
@@ -85,7 +85,7 @@ class Gathered:
 def one_text(fault: Fault, lines: list[str], name: str) -> str:
     line = lines[fault.line - 1].rstrip("\r") if 0 < fault.line <= len(lines) else ""
     start = max(0, fault.column - 100)
-    part = line[start:start + 130].replace("\t", " ")
+    part = line[start : start + 130].replace("\t", " ")
     shown = "".join(c if c.isprintable() else "\N{REPLACEMENT CHARACTER}" for c in part)
     mark = " " * (fault.column - 1 - start) + "^"
     return f"{name}: line {fault.line}, column {fault.column}: {fault.message}\n    {shown}\n    {mark}"

@@ -37,5 +37,8 @@ def incoming(record: Record) -> list[int]:
 def differing_exits(record: Record) -> dict[int, list[int]]:
     """Regions in reach whose exit list is another than LoopFinder finds, with that one."""
     found = loop_exits(record)
-    return {number: found.get(number, []) for number in reachable(record)
-            if sorted(record.regions[number].exits) != sorted(found.get(number, []))}
+    return {
+        number: found.get(number, [])
+        for number in reachable(record)
+        if sorted(record.regions[number].exits) != sorted(found.get(number, []))
+    }

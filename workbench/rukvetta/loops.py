@@ -12,10 +12,10 @@ from .record import RETURN, Record
 class LoopFinder:
     def __init__(self, record: Record) -> None:
         self.record = record
-        self.exit_targets: dict[int, list[int]] = {}      # loop header: its exit targets, in order of finding
+        self.exit_targets: dict[int, list[int]] = {}  # loop header: its exit targets, in order of finding
         self.scc_stack: list[int] = []
-        self.pending: dict[int, int] = {}           # region: its place on the stack
-        self.complete: dict[int, bool] = {}          # region: whether it may return from the function
+        self.pending: dict[int, int] = {}  # region: its place on the stack
+        self.complete: dict[int, bool] = {}  # region: whether it may return from the function
 
     def find_earliest_scc_root_of(self, node: int) -> tuple[int | None, bool]:
         """The earliest place on the stack that node leads back to, or None; and whether it may return."""
@@ -50,10 +50,9 @@ class LoopFinder:
     def complete_loop(self, header: int, place: int, may_return: bool) -> None:
         """Note the loop's exits: those that reconverge, if any does. Then look for loops within its body."""
         leaving = (target for node in self.scc_stack[place:] for target in self.record.regions[node].targets)
-        self.exit_targets[header] = list(dict.fromkeys(
-            target for target in leaving if self.complete.get(target) == may_return))
+        self.exit_targets[header] = list(dict.fromkeys(target for target in leaving if self.complete.get(target) == may_return))
         self.finish(header, may_return)
-        body = self.scc_stack[place + 1:]
+        body = self.scc_stack[place + 1 :]
         for node in body:
             del self.pending[node]
         for node in body:

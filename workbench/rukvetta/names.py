@@ -17,6 +17,7 @@ LETTERS = {"i": r.INPUT, "d": r.INSTRUCTION}
 @dataclass(frozen=True)
 class Opcode:
     """An opcode's number, and the type and cost of instructions that say none; None where the definition says none either."""
+
     number: int
     type: int = 0
     cost: int | None = None
@@ -64,7 +65,7 @@ class Names:
         self.regions: dict[str, int] = {}
         self.constants: dict[str, r.Value] = {}
         self.opcodes: dict[str, Opcode] = {}
-        self.values: dict[r.Value, str] = {}        # for pictures: what each value is called
+        self.values: dict[r.Value, str] = {}  # for pictures: what each value is called
         self.default_cost: int | None = None
         self.lost, self.lost_region = lost or set(), lost_region
 
@@ -84,8 +85,11 @@ class Names:
 
     def find(self, table: dict[str, Any], token: Any, what: str) -> Any:
         if token.value not in table:
-            raise self.unknown(token, f"found `{token}`, expected the name or the number of {what}{near(token, table)}",
-                               table is self.regions and self.lost_region)
+            raise self.unknown(
+                token,
+                f"found `{token}`, expected the name or the number of {what}{near(token, table)}",
+                table is self.regions and self.lost_region,
+            )
         return table[token.value]
 
     def type(self, tree: Any) -> int:
@@ -123,8 +127,9 @@ class Names:
                 return table[token.value]
         value = numbered_value(token)
         if value is None:
-            raise self.unknown(token, f"found `{token}`, expected a value of region {where} or a constant"
-                               f"{near(token, [*own, *self.constants])}")
+            raise self.unknown(
+                token, f"found `{token}`, expected a value of region {where} or a constant" f"{near(token, [*own, *self.constants])}"
+            )
         return value
 
     def lines(self) -> Iterator[str]:

@@ -14,16 +14,16 @@ from . import streams
 from .faults import escaped
 
 PACKAGES = {
-    "lark": "python3-lark",             # the source form
-    "rich": "python3-rich",             # tables and the progress line
-    "dagre": "node-dagre-layout",       # the graph's layout, inlined into a page
-    "selenium": "python3-selenium",     # the browser test alone
+    "lark": "python3-lark",  # the source form
+    "rich": "python3-rich",  # tables and the progress line
+    "dagre": "node-dagre-layout",  # the graph's layout, inlined into a page
+    "selenium": "python3-selenium",  # the browser test alone
     "chromium": "chromium chromium-driver",
 }
 COMMAND = "apt-get install " + " ".join(PACKAGES.values())
 DAGRE = "/usr/share/nodejs/dagre/dist/dagre.min.js"
 
-REFUSED, USAGE, MISSING = 1, 2, 3       # statuses: the input is at fault, the command is, something is not there
+REFUSED, USAGE, MISSING = 1, 2, 3  # statuses: the input is at fault, the command is, something is not there
 
 
 class Missing(Exception):
@@ -35,8 +35,10 @@ def need(module: str) -> ModuleType:
     try:
         return importlib.import_module(module)
     except ImportError:
-        raise Missing(f"This needs Debian's {PACKAGES[module.split('.')[0]]} and Debian's Python, /usr/bin/python3; "
-                      f"`{COMMAND}` installs all that the workbench uses.") from None
+        raise Missing(
+            f"This needs Debian's {PACKAGES[module.split('.')[0]]} and Debian's Python, /usr/bin/python3; "
+            f"`{COMMAND}` installs all that the workbench uses."
+        ) from None
 
 
 def need_dagre() -> str:
@@ -45,8 +47,9 @@ def need_dagre() -> str:
         with open(DAGRE, encoding="utf-8") as file:
             return file.read()
     except OSError:
-        raise Missing(f"This needs Debian's {PACKAGES['dagre']}, which has {DAGRE}; "
-                      f"`{COMMAND}` installs all that the workbench uses.") from None
+        raise Missing(
+            f"This needs Debian's {PACKAGES['dagre']}, which has {DAGRE}; " f"`{COMMAND}` installs all that the workbench uses."
+        ) from None
 
 
 def leave_output() -> None:
@@ -79,7 +82,7 @@ def run_to_the_end(main: Callable[[], int]) -> int:
     """Run it, and write what it printed."""
     try:
         status = main()
-    except SystemExit as ended:     # of the parser of arguments
+    except SystemExit as ended:  # of the parser of arguments
         status = ended.code if isinstance(ended.code, int) else 0
     sys.stdout.flush()
     return status

@@ -25,7 +25,7 @@ def text_of(name: str) -> str:
 def script() -> str:
     """The one script of a page: the layout library, then ours."""
     ours = "\n".join(text_of(part) for part in PARTS)
-    return f"/* {LAYOUT_NOTICE} */\n{need_dagre()}\n(function () {{\n\"use strict\";\n{ours}}})();\n"
+    return f'/* {LAYOUT_NOTICE} */\n{need_dagre()}\n(function () {{\n"use strict";\n{ours}}})();\n'
 
 
 def filled(title: str, body: str, scripts: str = "") -> str:
@@ -44,9 +44,11 @@ def routine_page(title: str, texts: dict[str, str], options: dict[str, Any]) -> 
     """The page of a routine. `texts` has record, sheet, names and explained, each a text or empty."""
     given = json.dumps({"title": title, **options}).replace("<", "\\u003c")
     wanted = json.dumps(sorted(texts))
-    start = (f"const texts = {{}};\nfor (const name of {wanted}) "
-             "texts[name] = document.getElementById('text-' + name).textContent.trim();\n"
-             f"drawRoutine(document.querySelector('main'), texts, {given});\n")
+    start = (
+        f"const texts = {{}};\nfor (const name of {wanted}) "
+        "texts[name] = document.getElementById('text-' + name).textContent.trim();\n"
+        f"drawRoutine(document.querySelector('main'), texts, {given});\n"
+    )
     scripts = "".join(kept(name, text) for name, text in texts.items())
     scripts += f"<script>\n{script()}{start}</script>\n<!--\n{text_of('dagre-licence.txt')}-->\n"
     return filled(title, "", scripts)
@@ -60,6 +62,8 @@ def index_page(title: str, rows: list[tuple]) -> str:
         first = f'<td><a href="{html.escape(quote(os.fsencode(link)))}">{html.escape(name)}</a></td>'
         second = f'<td><span class="badge {html.escape(outcome.split()[0])}">{html.escape(outcome)}</span></td>'
         lines.append("<tr>" + first + second + "".join(f'<td class="number">{html.escape(cell)}</td>' for cell in cells) + "</tr>")
-    body = f"<header><h1>{html.escape(title)}</h1><p>{len(rows) - 1} routines</p></header>" \
-           f"<table><thead><tr>{heads}</tr></thead><tbody>\n" + "\n".join(lines) + "\n</tbody></table>"
+    body = (
+        f"<header><h1>{html.escape(title)}</h1><p>{len(rows) - 1} routines</p></header>"
+        f"<table><thead><tr>{heads}</tr></thead><tbody>\n" + "\n".join(lines) + "\n</tbody></table>"
+    )
     return filled(title, body)

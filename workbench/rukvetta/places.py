@@ -24,9 +24,13 @@ def check_store(store: bytes) -> None:
             raise Refused(2, number, f"Block {number} has the number {found} in its bytes 0 and 1; {number} would be allowed.")
         found = int.from_bytes(block[CHECK:], "little")
         if found != check_of(block):
-            raise Refused(3, number, f"Block {number} has the check {found:,} in its bytes 508 to 511, which is not the one of its other "
-                          "bytes. The block is damaged; which byte is wrong cannot be told. Take the store from its source again: a "
-                          "check that is only made to fit would let the damage pass.")
+            raise Refused(
+                3,
+                number,
+                f"Block {number} has the check {found:,} in its bytes 508 to 511, which is not the one of its other "
+                "bytes. The block is damaged; which byte is wrong cannot be told. Take the store from its source again: a "
+                "check that is only made to fit would let the damage pass.",
+            )
 
 
 def check_used(words: list[int]) -> None:
@@ -93,6 +97,7 @@ class Places:
             made = r.Instruction(self.word("the opcode"), self.within(r.RESULT, "the type"), self.word("the cost"), [])
             made.reads = self.listed(r.READS, "reads", lambda k: self.value(f"read {k}"))
             return made
+
         return self.within_part(f"instruction {place}: ", read)
 
     def block(self, place: int) -> list[r.Instruction]:
@@ -102,14 +107,12 @@ class Places:
         self.region, self.part = number, f"region {number}, "
         inputs = self.listed(r.INPUTS, "inputs", lambda k: self.within(r.TYPE, f"the type of input {k}"))
         blocks = self.listed(r.BLOCKS, "blocks", self.block)
-        made = r.Region(inputs, blocks, self.within(r.LIMIT, "the turn limit"),
-                        self.within((0, 5), "the kind of the terminator"))
+        made = r.Region(inputs, blocks, self.within(r.LIMIT, "the turn limit"), self.within((0, 5), "the kind of the terminator"))
         made.opcode = self.word("the terminator's opcode") if made.kind == r.EXIT else 0
         made.values = self.listed(r.VALUES[made.kind], "the terminator's values", lambda k: self.value(f"value {k}"))
         made.targets = self.listed(r.TARGETS[made.kind], "targets", lambda k: self.word(f"target {k}"))
         for target in dict.fromkeys(made.targets):
-            made.passed[target] = self.listed(r.INPUTS, f"values passed to region {target}",
-                                              lambda k: self.value(f"passed value {k}"))
+            made.passed[target] = self.listed(r.INPUTS, f"values passed to region {target}", lambda k: self.value(f"passed value {k}"))
         made.exits = self.listed(r.EXITS, "loop exit targets", lambda k: self.word(f"exit {k}"))
         return made
 
@@ -120,8 +123,12 @@ class Places:
         made.regions = [self.one_region(number) for number in range(count)]
         if self.at != self.words[0]:
             over = self.words[0] - self.at
-            raise Refused(4, 0, f"Region {count - 1}, the last, ends before word {self.at}, and W is {self.words[0]}: "
-                          f"{several(over, 'word')} {'stays' if over == 1 else 'stay'} over.")
+            raise Refused(
+                4,
+                0,
+                f"Region {count - 1}, the last, ends before word {self.at}, and W is {self.words[0]}: "
+                f"{several(over, 'word')} {'stays' if over == 1 else 'stay'} over.",
+            )
         return made
 
 

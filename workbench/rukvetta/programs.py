@@ -12,14 +12,18 @@ from .needs import Missing
 VARIABLE = "RUKVETTA_PROGRAMS"
 HERE = os.path.dirname(os.path.abspath(__file__))
 BUILT = os.path.normpath(os.path.join(HERE, "..", "..", "target", "bin"))
-INSTALLED = os.path.normpath(os.path.join(HERE, "..", "..", "..", "bin"))      # of PREFIX, where the package is in share/rukvetta
+INSTALLED = os.path.normpath(os.path.join(HERE, "..", "..", "..", "bin"))  # of PREFIX, where the package is in share/rukvetta
 DEFAULT = INSTALLED if os.path.basename(os.path.dirname(os.path.dirname(HERE))) == "share" else BUILT
 BUILT_BY = {"show": "`rt check show` builds it", "nest": "`rt check nest` builds it"}
 
 
 def add_option(parser: argparse.ArgumentParser) -> None:
-    parser.add_argument("--programs", metavar="FOLDER", default=os.environ.get(VARIABLE) or DEFAULT,
-                        help=f"the folder of show and nest (else ${VARIABLE}, else target/bin)")
+    parser.add_argument(
+        "--programs",
+        metavar="FOLDER",
+        default=os.environ.get(VARIABLE) or DEFAULT,
+        help=f"the folder of show and nest (else ${VARIABLE}, else target/bin)",
+    )
 
 
 class Programs:
@@ -34,8 +38,10 @@ class Programs:
     def path(self, name: str) -> str:
         """Where a program is, if it is there."""
         if not self.has(name):
-            raise Missing(f"The program `{name}` is not in {escaped(self.folder)}: {BUILT_BY[name]}; "
-                          f"--programs or ${VARIABLE} names another folder.")
+            raise Missing(
+                f"The program `{name}` is not in {escaped(self.folder)}: {BUILT_BY[name]}; "
+                f"--programs or ${VARIABLE} names another folder."
+            )
         return os.path.join(self.folder, name)
 
     def answer(self, name: str, store: bytes) -> str:

@@ -9,7 +9,7 @@ from typing import Any, TypeVar
 from .needs import need
 
 Item = TypeVar("Item")
-FEW = 4         # so many are done before a line could be read
+FEW = 4  # so many are done before a line could be read
 
 
 def live_console() -> Any:
@@ -25,7 +25,7 @@ def tracked(items: Iterable[Item], total: int, live: Any = None) -> Iterator[Ite
     progress = need("rich.progress")
     columns = progress.BarColumn(), progress.MofNCompleteColumn(), progress.TimeElapsedColumn()
     console = live or live_console()
-    with progress.Progress(*columns, console=console, transient=True, redirect_stdout=False) as bar:     # which may be a file
+    with progress.Progress(*columns, console=console, transient=True, redirect_stdout=False) as bar:  # which may be a file
         task = bar.add_task("", total=total)
         for item in items:
             yield item

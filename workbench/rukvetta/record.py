@@ -6,17 +6,17 @@ from collections.abc import Callable, Iterable
 from dataclasses import dataclass, field
 from typing import Any
 
-CONSTANT, INPUT, INSTRUCTION, OUTPUT, BOOLEAN, UNDEFINED = range(6)      # kinds of values
-UNREACHABLE, RETURN, EXIT, BRANCH, SELECT_BOOL, SELECT_NUM = range(6)   # kinds of terminators
+CONSTANT, INPUT, INSTRUCTION, OUTPUT, BOOLEAN, UNDEFINED = range(6)  # kinds of values
+UNREACHABLE, RETURN, EXIT, BRANCH, SELECT_BOOL, SELECT_NUM = range(6)  # kinds of terminators
 
 # What document 01 allows, least and most.
 REGIONS, CONSTANTS, INPUTS = (1, 32), (0, 64), (0, 4)
 BLOCKS, INSTRUCTIONS, READS = (0, 8), (1, 8), (0, 3)
 TYPE, RESULT, WORD, LIMIT, EXITS = (1, 255), (0, 255), (0, 65535), (1, 65535), (0, 32)
-VALUES = (0, 0), (0, 4), (0, 4), (0, 0), (1, 1), (1, 1)                 # by kind of terminator
+VALUES = (0, 0), (0, 4), (0, 4), (0, 0), (1, 1), (1, 1)  # by kind of terminator
 TARGETS = (0, 0), (0, 0), (0, 0), (1, 1), (2, 2), (1, 8)
 
-Value = tuple[int, int, int]        # its words: kind, region, index
+Value = tuple[int, int, int]  # its words: kind, region, index
 TRUE, FALSE = (BOOLEAN, 0, 1), (BOOLEAN, 0, 0)
 
 
@@ -26,7 +26,7 @@ class Instruction:
     type: int
     cost: int
     reads: list[Value]
-    line: int = 0       # of the source
+    line: int = 0  # of the source
 
 
 @dataclass
@@ -38,9 +38,9 @@ class Region:
     opcode: int = 0
     values: list[Value] = field(default_factory=list)
     targets: list[int] = field(default_factory=list)
-    passed: dict[int, list[Value]] = field(default_factory=dict)    # each distinct target's inputs, by first standing
+    passed: dict[int, list[Value]] = field(default_factory=dict)  # each distinct target's inputs, by first standing
     exits: list[int] = field(default_factory=list)
-    lines: dict[Any, int] = field(default_factory=dict)             # of the source: region, terminator, exits, (pass, target)
+    lines: dict[Any, int] = field(default_factory=dict)  # of the source: region, terminator, exits, (pass, target)
 
     def instructions(self) -> list[Instruction]:
         return [instruction for block in self.blocks for instruction in block]

@@ -15,7 +15,7 @@ from .syntax import TERMINATORS, Unparsed, parse
 
 WORDS = re.compile(r"[A-Za-z_][\w.]*(?:-[\w.]+)*")
 NAME = re.compile(rf"{WORDS.pattern}|[0-9]+")
-MOST_WORK = 2_000_000       # letters read up to a fault, over all the times that a source is parsed
+MOST_WORK = 2_000_000  # letters read up to a fault, over all the times that a source is parsed
 LOST_REGION = "region lost-region"
 GOES_ON = re.compile(r",[ \t\r]*(#.*)?$")
 
@@ -23,10 +23,11 @@ GOES_ON = re.compile(r",[ \t\r]*(#.*)?$")
 @dataclass
 class Draft:
     """A source's lines, each with its number, while some of them are taken out."""
+
     lines: list[tuple[int, str]]
-    patched: set[int] = field(default_factory=set)      # numbers of lines that were taken out or put in
-    lost: set[str] = field(default_factory=set)         # the words that stood in them
-    lost_region: bool = False                           # whether one of them began a region, with no name that can be read
+    patched: set[int] = field(default_factory=set)  # numbers of lines that were taken out or put in
+    lost: set[str] = field(default_factory=set)  # the words that stood in them
+    lost_region: bool = False  # whether one of them began a region, with no name that can be read
 
     def text(self) -> str:
         return "\n".join(line for _, line in self.lines)
@@ -106,7 +107,7 @@ def parse_on(source: str, broken: list[Fault], gathered: Gathered) -> tuple[Any,
             number = draft.number(fault.line)
             if number not in draft.patched or not gathered.found:
                 gathered.found.append(Fault(number, fault.column, fault.message))
-            work += sum(len(line) + 1 for _, line in draft.lines[:fault.line])
+            work += sum(len(line) + 1 for _, line in draft.lines[: fault.line])
             if work > MOST_WORK or (fault.ended and not fault.lacks and not fault.meant):
                 break
             repair(draft, fault)

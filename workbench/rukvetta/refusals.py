@@ -14,7 +14,7 @@ RULES = {
     5: "a count, type, kind or limit is out of range",
     6: "a region, constant or value names nothing allowed",
     7: "a passed value's type or number differs from the target's inputs, a boolean test is not type 1, "
-       "or two Return regions differ in types",
+    "or two Return regions differ in types",
     8: "an exit list names a region twice",
     9: "regions would pass 128, nodes 512, node outputs 512, or lazy condition records 512",
     10: "the lent words are too few",

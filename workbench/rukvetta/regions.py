@@ -11,7 +11,7 @@ from .recovery import Draft
 from .syntax import trees
 
 TERMINATORS = {"unreachable": r.UNREACHABLE, "return_": r.RETURN, "exit_": r.EXIT, "branch": r.BRANCH, "select": None}
-ANY = r.UNDEFINED, 0, 1     # stands for a value that is at fault
+ANY = r.UNDEFINED, 0, 1  # stands for a value that is at fault
 Items = TypeVar("Items", bound=list)
 
 
@@ -29,9 +29,9 @@ class RegionReader:
 
     def __init__(self, names: Names, place: int, tree: Any, gathered: Gathered, draft: Draft) -> None:
         self.names, self.place, self.tree, self.gathered, self.draft = names, place, tree, gathered, draft
-        self.own: dict[str, r.Value] = {}       # the region's own values by name
-        self.count = 0                          # instructions so far
-        self.wants_exits: bool | None = None    # True for `exits auto`, False for a list, None for no line
+        self.own: dict[str, r.Value] = {}  # the region's own values by name
+        self.count = 0  # instructions so far
+        self.wants_exits: bool | None = None  # True for `exits auto`, False for a list, None for no line
         self.has_limit = False
         self.made = r.Region([], [], 1, r.UNREACHABLE, lines={"region": tree.meta.line})
 
@@ -89,8 +89,10 @@ class RegionReader:
         """Note what a target gets; a target named twice gets the same."""
         target = self.names.region(reference)
         if self.made.passed.setdefault(target, values) != values:
-            raise Fault.at(reference.meta, f"found other values for region {target} than before, expected the same: "
-                           "a region passes each target one list")
+            raise Fault.at(
+                reference.meta,
+                f"found other values for region {target} than before, expected the same: " "a region passes each target one list",
+            )
         self.made.lines.setdefault(("pass", target), reference.meta.line)
         return target
 
@@ -123,8 +125,11 @@ class RegionReader:
             return number(given, r.WORD, "cost")
         dear = self.names.default_cost if opcode.cost is None else opcode.cost
         if dear is None:
-            raise Fault.at(code, f"found `{code}` without a cost, expected `cost N` behind the instruction or in the opcode's "
-                           "definition, or `default cost 0` once in the source")
+            raise Fault.at(
+                code,
+                f"found `{code}` without a cost, expected `cost N` behind the instruction or in the opcode's "
+                "definition, or `default cost 0` once in the source",
+            )
         return dear
 
     def named(self, name: Any, result: bool | int) -> None:

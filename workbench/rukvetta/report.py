@@ -25,8 +25,12 @@ DESCRIPTION = "Draws the graph and the nest of stores, or of sources that it ass
 def routine_texts(routine: Routine, programs: Programs) -> tuple[str, dict[str, str]]:
     """What a page is drawn from: what the programs print, the source's names, and a refusal's explanation."""
     shown, sheet = programs.show(routine.store), programs.nest(routine.store)
-    texts = {"record": "" if refusal(shown) else shown, "sheet": sheet,
-             "names": "\n".join(routine.names.lines()) if routine.names else "", "explained": ""}
+    texts = {
+        "record": "" if refusal(shown) else shown,
+        "sheet": sheet,
+        "names": "\n".join(routine.names.lines()) if routine.names else "",
+        "explained": "",
+    }
     if refusal(sheet):
         texts["explained"] = "\n".join(named(routine, text) for text in refused_text(routine, sheet, programs)[1:])
     return shown, texts

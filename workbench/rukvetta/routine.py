@@ -18,8 +18,8 @@ SOURCE, STORE = ".routine", ".store"
 class Routine:
     name: str
     store: bytes
-    names: Names | None = None      # of a source
-    record: Record | None = None    # of a source: it knows the lines
+    names: Names | None = None  # of a source
+    record: Record | None = None  # of a source: it knows the lines
 
 
 class BadSource(Exception):

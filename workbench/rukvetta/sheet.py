@@ -11,6 +11,7 @@ from .programs import refusal
 @dataclass
 class Verdict:
     """Outcome, figure (None if there is none), attempts and twice of a sheet; or a refusal's number and word."""
+
     outcome: str
     figure: int | None = None
     attempts: int | None = None

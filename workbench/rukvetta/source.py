@@ -13,7 +13,7 @@ from .recovery import Draft, parse_on
 from .regions import RegionReader, within
 from .syntax import decoded, trees
 
-MOST_BYTES = 262144     # of a source; what `show` prints of a full store has some 40,000
+MOST_BYTES = 262144  # of a source; what `show` prints of a full store has some 40,000
 
 
 class SourceReader:
@@ -22,8 +22,8 @@ class SourceReader:
     def __init__(self, tree: Any, draft: Draft, gathered: Gathered) -> None:
         self.tree, self.draft, self.gathered = tree, draft, gathered
         self.names = Names(draft.lost, draft.lost_region)
-        self.wanted: list[tuple[int, int]] = []     # regions whose exits are to be found, with their lines
-        self.unlimited: dict[int, Any] = {}         # regions without a limit, with the place of the name
+        self.wanted: list[tuple[int, int]] = []  # regions whose exits are to be found, with their lines
+        self.unlimited: dict[int, Any] = {}  # regions without a limit, with the place of the name
 
     def define(self) -> None:
         """Types, then opcodes, which name types, then the default cost, then regions."""
@@ -45,8 +45,9 @@ class SourceReader:
     def define_opcode(self, name: Any, code: Any, given: Any, cost: Any) -> None:
         made = Opcode(0, 1 if given else 0, 0)
         with self.gathered.told():
-            made = Opcode(number(code, r.WORD, "opcode"), self.names.type(given) if given else 0,
-                          number(cost, r.WORD, "cost") if cost else None)
+            made = Opcode(
+                number(code, r.WORD, "opcode"), self.names.type(given) if given else 0, number(cost, r.WORD, "cost") if cost else None
+            )
         with self.gathered.told():
             self.names.define(self.names.opcodes, name, made)
 
@@ -101,7 +102,7 @@ class SourceReader:
                 self.wanted.append((place, part.meta.line))
             if not reader.has_limit and part.meta.line not in self.draft.patched:
                 self.unlimited[place] = part.children[0].children[0]
-        for region in record.regions:       # by first standing; a target that is passed nothing gets no values
+        for region in record.regions:  # by first standing; a target that is passed nothing gets no values
             region.passed = {target: region.passed.get(target, []) for target in region.targets}
         return record
 
@@ -114,10 +115,18 @@ class SourceReader:
         for place, origin in headers(record).items():
             if place in self.unlimited:
                 token = self.unlimited[place]
-                why = "which its exit list marks as the head of a loop" if origin is None else \
-                    f"to which region {self.names.region_name(origin)} leads back"
-                self.gathered.found.append(Fault.at(token, f"found region {token} without a limit, {why}, expected `limit N`: "
-                                                    "how many turns the loop takes at most, 1 to 65535"))
+                why = (
+                    "which its exit list marks as the head of a loop"
+                    if origin is None
+                    else f"to which region {self.names.region_name(origin)} leads back"
+                )
+                self.gathered.found.append(
+                    Fault.at(
+                        token,
+                        f"found region {token} without a limit, {why}, expected `limit N`: "
+                        "how many turns the loop takes at most, 1 to 65535",
+                    )
+                )
 
 
 def find_exits(record: r.Record, wanted: list[tuple[int, int]]) -> None:
@@ -126,8 +135,12 @@ def find_exits(record: r.Record, wanted: list[tuple[int, int]]) -> None:
         return
     for target in [record.entry, *(target for region in record.regions for target in region.targets)]:
         if target >= len(record.regions):
-            raise Fault(wanted[0][1], 1, f"found a way to region {target}, which is not there; expected regions of the record, "
-                        "or `exits auto` cannot look for loops")
+            raise Fault(
+                wanted[0][1],
+                1,
+                f"found a way to region {target}, which is not there; expected regions of the record, "
+                "or `exits auto` cannot look for loops",
+            )
     found = loop_exits(record)
     for place, _ in wanted:
         record.regions[place].exits = found.get(place, [])

@@ -2,8 +2,8 @@
 
 from __future__ import annotations
 
-BLOCK, PAYLOAD, CHECK = 512, 2, 508     # a block's length, and where its payload and its check begin
-WORDS = (CHECK - PAYLOAD) // 2          # payload words of a block
+BLOCK, PAYLOAD, CHECK = 512, 2, 508  # a block's length, and where its payload and its check begin
+WORDS = (CHECK - PAYLOAD) // 2  # payload words of a block
 BLOCKS = 16
 MOST_WORDS = WORDS * BLOCKS
 
@@ -14,7 +14,7 @@ def check_of(block: bytes) -> int:
 
 
 def blocks_of(store: bytes) -> list[bytes]:
-    return [store[at:at + BLOCK] for at in range(0, len(store), BLOCK)]
+    return [store[at : at + BLOCK] for at in range(0, len(store), BLOCK)]
 
 
 def words_of(store: bytes) -> list[int]:
@@ -26,7 +26,7 @@ def store_of(words: list[int]) -> bytes:
     """The store that holds these payload words, W the first of them, in as many blocks as they need."""
     blocks = []
     for number in range(-(-len(words) // WORDS)):
-        here = words[number * WORDS:(number + 1) * WORDS]
+        here = words[number * WORDS : (number + 1) * WORDS]
         payload = b"".join(word.to_bytes(2, "little") for word in here)
         block = number.to_bytes(2, "little") + payload.ljust(CHECK - PAYLOAD, b"\0")
         blocks.append(block + check_of(block).to_bytes(4, "little"))

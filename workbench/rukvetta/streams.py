@@ -11,7 +11,7 @@ import tempfile
 from collections.abc import Iterator
 
 INPUT, OUTPUT = "standard input", "standard output"
-MOST_READ = 262145      # bytes of a file: one more than a source may have, and far more than a store
+MOST_READ = 262145  # bytes of a file: one more than a source may have, and far more than a store
 
 
 class Closed(io.TextIOBase):
@@ -44,7 +44,7 @@ def naming(name: str) -> Iterator[None]:
         raise OSError(error.errno, error.strerror, error.filename or name) from None
 
 
-closed: set[int] = set()        # the standard descriptors that were closed at the start
+closed: set[int] = set()  # the standard descriptors that were closed at the start
 
 
 def prepare() -> None:
@@ -56,10 +56,10 @@ def prepare() -> None:
             closed.add(descriptor)
             os.open(os.devnull, os.O_RDWR)
     if sys.stderr is None:
-        sys.stderr = open(os.devnull, "w", encoding="utf-8")        # noqa: SIM115 (open to the end)
+        sys.stderr = open(os.devnull, "w", encoding="utf-8")  # noqa: SIM115 (open to the end)
     if sys.stdout is None:
         sys.stdout = Closed()
-    elif isinstance(sys.stdout, io.TextIOWrapper):      # a name or a locale may not be UTF-8
+    elif isinstance(sys.stdout, io.TextIOWrapper):  # a name or a locale may not be UTF-8
         encoding, terminal = sys.stdout.encoding, sys.stdout.isatty()
         sys.stdout = Written(sys.stdout.detach(), encoding=encoding, errors="backslashreplace", line_buffering=terminal)
 

@@ -40,16 +40,20 @@ def loops(record: r.Record) -> Iterator[str]:
         yield f"Region {header} heads a loop of at most {several(limit, 'turn')}, {left}."
     for number, wanted in differing_exits(record).items():
         listed = record.regions[number].exits
-        yield (f"The exit list of region {number} names {numbers(listed)}; LoopFinder of cfg.rs would find {numbers(wanted)} "
-               "(`exits auto`).")
+        yield (
+            f"The exit list of region {number} names {numbers(listed)}; LoopFinder of cfg.rs would find {numbers(wanted)} "
+            "(`exits auto`)."
+        )
 
 
 def record_sentences(record: r.Record, words: int) -> Iterator[str]:
     """What stands in the record."""
     live = reachable(record)
     instructions = sum(len(region.instructions()) for region in record.regions)
-    yield (f"The record has {several(len(record.regions), 'region')} with {several(instructions, 'instruction')}, "
-           f"{several(len(record.constants), 'constant')}, entry {record.entry}, test cost {record.test}; {words} words.")
+    yield (
+        f"The record has {several(len(record.regions), 'region')} with {several(instructions, 'instruction')}, "
+        f"{several(len(record.constants), 'constant')}, entry {record.entry}, test cost {record.test}; {words} words."
+    )
     unreached = [number for number in range(len(record.regions)) if number not in live]
     if unreached:
         yield f"The entry does not reach {regions(unreached)}."
@@ -70,11 +74,15 @@ def sheet_sentences(record: r.Record, sheet: str) -> Iterator[str]:
     """What the proved program says of it."""
     said = verdict(sheet)
     if said.outcome == "untouched":
-        yield (f"It stays untouched: the entry's incoming count is {incoming(record)[record.entry]}, "
-               "and only an entry that nothing leads back to is nested.")
+        yield (
+            f"It stays untouched: the entry's incoming count is {incoming(record)[record.entry]}, "
+            "and only an entry that nothing leads back to is nested."
+        )
         return
-    parts = f"{several(counted(sheet, 'select'), 'select')}, {several(counted(sheet, 'loop'), 'loop')} and " \
-            f"{several(counted(sheet, 'exit'), 'exit')}"
+    parts = (
+        f"{several(counted(sheet, 'select'), 'select')}, {several(counted(sheet, 'loop'), 'loop')} and "
+        f"{several(counted(sheet, 'exit'), 'exit')}"
+    )
     ending = {"whole": "It nests whole", "closed": "It nests closed (no run returns)", "leftover": "It nests in part"}
     yield f"{ending[said.outcome]}: {parts}, after {several(said.attempts or 0, 'attempt')} of at most {most_attempts(record):,}."
     if said.figure is not None:

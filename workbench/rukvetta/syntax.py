@@ -13,12 +13,21 @@ from .needs import need
 
 # How the grammar's terminals are called in a message; others are words of the form and stand for themselves.
 CALLED = {
-    "WORD": "a name", "NUMBER": "a number", "EMPTY": "`-`", "_NL": "the end of the line", "_COMMA": "`,`",
-    "ITEM": "an item as 0.0/7/1/5/-", "NEXT_ITEM": "another item", "LPAR": "`(`", "RPAR": "`)`", "EQUAL": "`=`",
-    "COLON": "`:`", "$END": "the end of the source",
+    "WORD": "a name",
+    "NUMBER": "a number",
+    "EMPTY": "`-`",
+    "_NL": "the end of the line",
+    "_COMMA": "`,`",
+    "ITEM": "an item as 0.0/7/1/5/-",
+    "NEXT_ITEM": "another item",
+    "LPAR": "`(`",
+    "RPAR": "`)`",
+    "EQUAL": "`=`",
+    "COLON": "`:`",
+    "$END": "the end of the source",
 }
 TERMINATORS = "branch", "exit", "return", "select", "unreachable"
-MARK = "\N{ZERO WIDTH NO-BREAK SPACE}"      # the byte-order mark that some editors put in front
+MARK = "\N{ZERO WIDTH NO-BREAK SPACE}"  # the byte-order mark that some editors put in front
 
 
 class Unparsed(Fault):
@@ -38,8 +47,7 @@ def parser() -> Any:
 
 
 def called(terminals: Iterable[str]) -> str:
-    return either(sorted({CALLED.get(t, f"`{t.lower()}`") for t in terminals},
-                         key=lambda word: (word.startswith("`"), word)))
+    return either(sorted({CALLED.get(t, f"`{t.lower()}`") for t in terminals}, key=lambda word: (word.startswith("`"), word)))
 
 
 def decoded(data: bytes) -> tuple[str, list[Fault]]:
@@ -49,7 +57,7 @@ def decoded(data: bytes) -> tuple[str, list[Fault]]:
         try:
             lines.append(line.decode("utf-8"))
         except UnicodeDecodeError as error:
-            column = len(line[:error.start].decode("utf-8").removeprefix(MARK if number == 1 else "")) + 1
+            column = len(line[: error.start].decode("utf-8").removeprefix(MARK if number == 1 else "")) + 1
             faults.append(Fault(number, column, f"found the byte {line[error.start]}, expected text in UTF-8"))
             lines.append(line.decode("utf-8", "replace"))
     return "\n".join(lines).removeprefix(MARK), faults
@@ -61,16 +69,23 @@ def parse(source: str) -> Any:
     try:
         return parser().parse(source if source.endswith("\n") else source + "\n")
     except exceptions.UnexpectedToken as error:
-        found = "the end of the source" if error.token.type == "$END" else \
-            "the end of the line" if error.token.type == "_NL" else f"`{error.token.strip()}`"
+        found = (
+            "the end of the source"
+            if error.token.type == "$END"
+            else "the end of the line"
+            if error.token.type == "_NL"
+            else f"`{error.token.strip()}`"
+        )
         line, column = place(error, source)
         misspelt_terminator(source, line + (error.token.type == "$END"), error.token)
         wanted = error.accepts or error.expected
-        raise Unparsed(line, column, f"found {found}, expected {called(wanted)}", lacking(error.token, wanted),
-                       ended=error.token.type == "$END") from None
+        raise Unparsed(
+            line, column, f"found {found}, expected {called(wanted)}", lacking(error.token, wanted), ended=error.token.type == "$END"
+        ) from None
     except exceptions.UnexpectedCharacters as error:
-        raise Unparsed(error.line, error.column, f"found `{visible(source, error.pos_in_stream)}`, "
-                       f"expected {called(accepted(source))}") from None
+        raise Unparsed(
+            error.line, error.column, f"found `{visible(source, error.pos_in_stream)}`, " f"expected {called(accepted(source))}"
+        ) from None
 
 
 def lacking(token: Any, wanted: Iterable[str]) -> str:
@@ -108,7 +123,7 @@ def misspelt_terminator(source: str, line: int, token: Any) -> None:
     """Where a region ends without a terminator, its last line may be one misspelt, which reads as an instruction."""
     if token.type not in ("$END", "REGION"):
         return
-    before = source.split("\n")[:line - 1]
+    before = source.split("\n")[: line - 1]
     while before and not before[-1].split("#")[0].strip():
         before.pop()
     word = re.match(r"[ \t]*([A-Za-z_][\w.-]*)(?![ \t]*=)", before[-1] if before else "")
@@ -116,12 +131,11 @@ def misspelt_terminator(source: str, line: int, token: Any) -> None:
         return
     close = near(word[1], TERMINATORS)
     if close:
-        raise Unparsed(len(before), word.start(1) + 1, f"found `{word[1]}`, expected an opcode or a terminator{close}",
-                       meant="unreachable")
+        raise Unparsed(len(before), word.start(1) + 1, f"found `{word[1]}`, expected an opcode or a terminator{close}", meant="unreachable")
 
 
 def visible(source: str, at: int) -> str:
     """What stands at a place, up to the next blank."""
-    rest = source[at:at + 30].split()
-    word = rest[0] if rest and not source[at].isspace() else source[at:at + 1]
+    rest = source[at : at + 30].split()
+    word = rest[0] if rest and not source[at].isspace() else source[at : at + 1]
     return word if word.isprintable() else f"\\u{ord(word[0]):04x}"

@@ -15,7 +15,7 @@ def missing() -> str | None:
     if not (os.path.exists(CHROMIUM) and os.path.exists(DRIVER)):
         return "there is no Chromium here; rukvetta/needs.py names the packages"
     try:
-        import selenium     # noqa: F401 (only asked for)
+        import selenium  # noqa: F401 (only asked for)
     except ImportError:
         return "there is no selenium here; rukvetta/needs.py names the packages"
     return None
@@ -25,6 +25,7 @@ class Browser:
     def __init__(self, width: int = 1500, height: int = 1000) -> None:
         from selenium import webdriver
         from selenium.webdriver.chrome.service import Service
+
         options = webdriver.ChromeOptions()
         options.binary_location = CHROMIUM
         for argument in "--headless=new", "--no-sandbox", "--disable-gpu", "--hide-scrollbars", f"--window-size={width},{height}":

@@ -39,8 +39,9 @@ def blocks(rng: Random, record: r.Record, number: int, known: list[Known]) -> li
 def region(rng: Random, record: r.Record, number: int, inputs: list[list[int]], returned: list[int]) -> r.Region:
     """A region of a record whose regions' inputs are known."""
     known = [((r.INPUT, number, k), given) for k, given in enumerate(inputs[number])]
-    made = r.Region(inputs[number], blocks(rng, record, number, known), rng.choice((1, 10, 65535)),
-                    rng.choices(range(6), (1, 2, 1, 4, 5, 3))[0])
+    made = r.Region(
+        inputs[number], blocks(rng, record, number, known), rng.choice((1, 10, 65535)), rng.choices(range(6), (1, 2, 1, 4, 5, 3))[0]
+    )
     if made.kind == r.RETURN:
         made.values = [value(rng, record, number, known, wanted) for wanted in returned]
     elif made.kind == r.EXIT:
@@ -57,8 +58,9 @@ def region(rng: Random, record: r.Record, number: int, inputs: list[list[int]], 
 def random_record(rng: Random) -> r.Record:
     count = rng.choice((1, 2, 3, 4, 5, 6, 8, 12, 20, 32))
     inputs = [[rng.choice((1, 2, 2, 255)) for _ in range(rng.randint(0, 4))] for _ in range(count)]
-    record = r.Record(rng.randrange(count), rng.choice((0, 2, 65535)),
-                      [rng.choice((1, 2, 255)) for _ in range(rng.choice((0, 1, 2, 64)))], [])
+    record = r.Record(
+        rng.randrange(count), rng.choice((0, 2, 65535)), [rng.choice((1, 2, 255)) for _ in range(rng.choice((0, 1, 2, 64)))], []
+    )
     returned = [rng.choice((1, 2)) for _ in range(rng.randint(0, 4))]
     record.regions = [region(rng, record, number, inputs, returned) for number in range(count)]
     found = loop_exits(record)
@@ -79,7 +81,7 @@ def damaged_store(rng: Random, store: bytes) -> bytes:
     """A store with another length, byte or word; words mostly with the checks put right, so that they are reached."""
     store, choice = bytearray(store), rng.random()
     if choice < 0.1:
-        return bytes(store[:rng.randrange(len(store))] if rng.random() < 0.5 else store + bytes(rng.choice((1, 512, 8192))))
+        return bytes(store[: rng.randrange(len(store))] if rng.random() < 0.5 else store + bytes(rng.choice((1, 512, 8192))))
     if choice < 0.25:
         store[rng.randrange(len(store))] ^= 1 << rng.randrange(8)
         return bytes(store)
@@ -91,7 +93,7 @@ def damaged_store(rng: Random, store: bytes) -> bytes:
     if rng.random() < 0.1:
         blocks[rng.randrange(len(blocks) // BLOCK) * BLOCK] ^= 1
         for at in range(0, len(blocks), BLOCK):
-            blocks[at + CHECK:at + BLOCK] = check_of(blocks[at:at + BLOCK]).to_bytes(4, "little")
+            blocks[at + CHECK : at + BLOCK] = check_of(blocks[at : at + BLOCK]).to_bytes(4, "little")
     return bytes(blocks)
 
 
@@ -102,9 +104,9 @@ def damaged_source(rng: Random, source: bytes) -> bytes:
     if choice == 0:
         return source[:at]
     if choice == 1:
-        return source[:at] + bytes([rng.randrange(256)]) + source[at + 1:]
+        return source[:at] + bytes([rng.randrange(256)]) + source[at + 1 :]
     if choice == 2:
-        return source[:at] + source[at + rng.randint(1, 20):]
+        return source[:at] + source[at + rng.randint(1, 20) :]
     if choice == 3:
         words[rng.randrange(len(words))] = rng.choice(words)
         return b" ".join(words)

@@ -29,7 +29,7 @@ def main() -> None:
         refuse("usage: /usr/bin/python3 -m tests.screenshots, with nothing behind it", USAGE)
     if missing():
         refuse(missing(), MISSING)
-    look = Browser(1400, 2000)       # tall, so that no picture has to be scrolled
+    look = Browser(1400, 2000)  # tall, so that no picture has to be scrolled
     with tempfile.TemporaryDirectory() as folder:
         for name, dark in PICTURES:
             path = os.path.join(folder, name + ".html")

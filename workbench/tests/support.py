@@ -11,7 +11,7 @@ WORKBENCH = os.path.join(ROOT, "workbench")
 CATALOGUE = os.path.join(WORKBENCH, "catalogue")
 sys.path.insert(0, WORKBENCH)
 
-from rukvetta.programs import Programs     # noqa: E402 (the path comes first)
+from rukvetta.programs import Programs  # noqa: E402 (the path comes first)
 
 programs = Programs()
 needs_show = unittest.skipUnless(programs.has("show"), f"there is no show in {programs.folder}; `rt check show` builds it")
@@ -31,8 +31,14 @@ def vectors(name: str) -> Iterator[tuple[bytes, str]]:
 
 def command(name: str, *arguments: str, data: bytes = b"", folder: str | None = None) -> tuple[int, bytes, str]:
     """Run a command of the workbench: its status, output and messages."""
-    done = subprocess.run([os.path.join(WORKBENCH, name), *arguments], input=data, capture_output=True, check=False, timeout=300,
-                          env={**os.environ, "RUKVETTA_PROGRAMS": folder or programs.folder, "COLUMNS": "160"})
+    done = subprocess.run(
+        [os.path.join(WORKBENCH, name), *arguments],
+        input=data,
+        capture_output=True,
+        check=False,
+        timeout=300,
+        env={**os.environ, "RUKVETTA_PROGRAMS": folder or programs.folder, "COLUMNS": "160"},
+    )
     return done.returncode, done.stdout, done.stderr.decode()
 
 

@@ -15,7 +15,7 @@ from rukvetta.loops import loop_exits
 from rukvetta.programs import refusal
 from rukvetta.source import read_source
 
-RANDOM = int(os.environ.get("RUKVETTA_RANDOM", 1000))      # random stores that are shown and assembled again
+RANDOM = int(os.environ.get("RUKVETTA_RANDOM", 1000))  # random stores that are shown and assembled again
 
 SWEEP = b"""# A comment
 type hertz 2
@@ -144,8 +144,10 @@ class Assemble(unittest.TestCase):
         self.assertEqual((status, store, said), (0, assemble(SWEEP)[0], ""))
         status, store, said = command("assemble", data=SWEEP.replace(b"below(", b"belw("))
         self.assertEqual((status, store), (1, b""))
-        self.assertEqual(said.split("\n")[0], "source: line 15, column 12: found `belw`, expected the name or the number "
-                         "of an opcode (near it: `below`)")
+        self.assertEqual(
+            said.split("\n")[0],
+            "source: line 15, column 12: found `belw`, expected the name or the number " "of an opcode (near it: `below`)",
+        )
         self.assertEqual(said.split("\n")[1:3], ["        more = belw(next,      # the line goes on", " " * 15 + "^"])
 
 

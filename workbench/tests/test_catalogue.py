@@ -43,8 +43,9 @@ class Catalogue(unittest.TestCase):
 
     def test_clocks(self) -> None:
         self.assertEqual([clock(text) for text in ("20MHz", "100 kHz", "5e6", "1ghz", "50hz")], [2e7, 1e5, 5e6, 1e9, 50])
-        self.assertEqual([duration(*pair) for pair in ((11, 1e6), (0, 1e6), (7143324, 1e7), (4011439590, 1e6))],
-                         ["11 µs", "0 ns", "714.3 ms", "4011 s"])
+        self.assertEqual(
+            [duration(*pair) for pair in ((11, 1e6), (0, 1e6), (7143324, 1e7), (4011439590, 1e6))], ["11 µs", "0 ns", "714.3 ms", "4011 s"]
+        )
 
 
 @needs_nest
@@ -75,14 +76,18 @@ class Check(unittest.TestCase):
     def test_the_progress_line(self) -> None:
         """On a terminal the rows come above a line that counts them."""
         ours, theirs = pty.openpty()
-        done = subprocess.Popen([os.path.join(WORKBENCH, "check-catalogue"), CATALOGUE, "--programs", programs.folder],
-                                stdout=theirs, stderr=theirs, env={**os.environ, "TERM": "xterm", "COLUMNS": "120"})
+        done = subprocess.Popen(
+            [os.path.join(WORKBENCH, "check-catalogue"), CATALOGUE, "--programs", programs.folder],
+            stdout=theirs,
+            stderr=theirs,
+            env={**os.environ, "TERM": "xterm", "COLUMNS": "120"},
+        )
         os.close(theirs)
         shown = b""
         while True:
             try:
                 shown += os.read(ours, 65536)
-            except OSError:         # the terminal's other end is closed
+            except OSError:  # the terminal's other end is closed
                 break
         os.close(ours)
         self.assertEqual(done.wait(), 0)
@@ -98,8 +103,12 @@ class Check(unittest.TestCase):
         status, out, _ = command("check-catalogue", self.folder)
         text = out.decode()
         self.assertEqual((status, text.splitlines()[-1]), (1, "2 passed, 3 failed"))
-        for said in ("line 2 of the sheet is `region 0 in - kids 0,3 out n3.0`, expected `region 0 in - kids 0,4 out n3.0`",
-                     "there is no case-b.sheet beside it", "line 3, column 1: found `retrun`", "refused 1 0"):
+        for said in (
+            "line 2 of the sheet is `region 0 in - kids 0,3 out n3.0`, expected `region 0 in - kids 0,4 out n3.0`",
+            "there is no case-b.sheet beside it",
+            "line 3, column 1: found `retrun`",
+            "refused 1 0",
+        ):
             self.assertIn(said, text)
 
     def test_the_list_of_sheets(self) -> None:

@@ -96,8 +96,12 @@ class Commands(Folder):
 
     def test_a_terminal_is_told_that_it_is_read(self) -> None:
         ours, theirs = pty.openpty()
-        done = subprocess.Popen([os.path.join(ROOT, "bin", "rukvetta"), "nest", "--programs", programs.folder], stdin=theirs,
-                                stdout=subprocess.PIPE, stderr=subprocess.PIPE)
+        done = subprocess.Popen(
+            [os.path.join(ROOT, "bin", "rukvetta"), "nest", "--programs", programs.folder],
+            stdin=theirs,
+            stdout=subprocess.PIPE,
+            stderr=subprocess.PIPE,
+        )
         os.write(ours, b"record\nregion a\nreturn\n\x04")
         out, said = done.communicate(timeout=60)
         os.close(ours)
@@ -110,15 +114,19 @@ class Commands(Folder):
         paths = [os.path.join(CATALOGUE, name) for name in sorted(os.listdir(CATALOGUE)) if name.endswith(".routine")][:6]
         for words, wanted in (["nest", *paths], b"whole figure"), (["report", *paths, "-o", self.path("i.html")], b""):
             ours, theirs = pty.openpty()
-            done = subprocess.Popen([os.path.join(ROOT, "bin", "rukvetta"), *words, "--programs", programs.folder], stdout=subprocess.PIPE,
-                                    stderr=theirs, env={**os.environ, "TERM": "xterm", "COLUMNS": "100"})
+            done = subprocess.Popen(
+                [os.path.join(ROOT, "bin", "rukvetta"), *words, "--programs", programs.folder],
+                stdout=subprocess.PIPE,
+                stderr=theirs,
+                env={**os.environ, "TERM": "xterm", "COLUMNS": "100"},
+            )
             os.close(theirs)
             out = done.communicate(timeout=60)[0]
             shown = b""
             try:
                 while part := os.read(ours, 65536):
                     shown += part
-            except OSError:         # the terminal's other end is closed
+            except OSError:  # the terminal's other end is closed
                 pass
             os.close(ours)
             self.assertIn(wanted, out)
@@ -142,7 +150,7 @@ class Commands(Folder):
         status, _, said = self.rukvetta("assemble", source, "-o", out)
         self.assertEqual(status, 1)
         self.assertIn(f"{source}: line 15, column 12: found `belw`", said)
-        self.assertEqual(stored(out), assemble(SWEEP)[0])       # as it was
+        self.assertEqual(stored(out), assemble(SWEEP)[0])  # as it was
         self.assertEqual(self.rukvetta("assemble", source, "-o", self.path("b.store"))[0], 1)
         self.assertEqual(sorted(os.listdir(self.folder)), ["a.routine", "a.store"])
         self.assertEqual(self.rukvetta("assemble", source, "-o", self.path("none", "b.store"), data=SWEEP)[0], 1)
@@ -155,7 +163,7 @@ class Commands(Folder):
         self.assertEqual(command("check-catalogue", CATALOGUE), command(RUKVETTA, "check", CATALOGUE))
         for name, words in ("report", ["report"]), (RUKVETTA, ["report"]):
             out = self.path("p.html")
-            self.assertEqual(command(name, *words[name == "report":], source, "-o", out)[0], 0)
+            self.assertEqual(command(name, *words[name == "report" :], source, "-o", out)[0], 0)
 
 
 @needs_nest
@@ -189,8 +197,12 @@ class Check(Folder):
         before = page(sheet)
         status, last, text = self.last("--update")
         self.assertEqual(status, 1)
-        for said in (f"{sheet}:", "  - whole figure 96078 attempts 21 twice 0", "  + whole figure 106128 attempts 21 twice 0",
-                     "Nothing is written: standard input is no terminal to ask on, and there is no --yes."):
+        for said in (
+            f"{sheet}:",
+            "  - whole figure 96078 attempts 21 twice 0",
+            "  + whole figure 106128 attempts 21 twice 0",
+            "Nothing is written: standard input is no terminal to ask on, and there is no --yes.",
+        ):
             self.assertIn(said, text)
         self.assertEqual(page(sheet), before)
         status, last, _ = self.last("--update", "--yes")
@@ -202,8 +214,12 @@ class Check(Folder):
         self.change()
         for answer, status, figure in (b"n\n", 1, "96078"), (b"y\n", 0, "106128"):
             ours, theirs = pty.openpty()
-            done = subprocess.Popen([os.path.join(ROOT, "bin", "rukvetta"), "check", self.top, "--update", "--programs", programs.folder],
-                                    stdin=theirs, stdout=subprocess.PIPE, stderr=subprocess.PIPE)
+            done = subprocess.Popen(
+                [os.path.join(ROOT, "bin", "rukvetta"), "check", self.top, "--update", "--programs", programs.folder],
+                stdin=theirs,
+                stdout=subprocess.PIPE,
+                stderr=subprocess.PIPE,
+            )
             os.write(ours, answer)
             out, _ = done.communicate(timeout=60)
             os.close(ours)
@@ -230,15 +246,19 @@ class Diff(Folder):
         self.assertEqual(self.diff(SWEEP, SWEEP), (0, []))
         moved = SWEEP.replace(b"region done\n    return\n", b"").replace(b"region start\n", b"region done\n    return\nregion start\n")
         self.assertEqual(self.diff(SWEEP, moved), (0, []))
-        for name, other in (b"from", b"begin"), (b"sweep", b"tone"), (b"next", b"then"), (b"hertz", b"hz"):     # names are no difference
+        for name, other in (b"from", b"begin"), (b"sweep", b"tone"), (b"next", b"then"), (b"hertz", b"hz"):  # names are no difference
             self.assertEqual(self.diff(SWEEP, SWEEP.replace(name, other)), (0, []), name)
 
     def test_one_instruction_more(self) -> None:
         """A line for it and two for the figure; in the sheets as text some ten lines differ, in the records more."""
         old = page("workbench", "catalogue", "sweep-markers.routine").encode()
         new = old.replace(b"    next = add(", b"    wait\n    next = add(")
-        expected = ["- whole figure 96078 attempts 21 twice 0", "+ whole figure 106128 attempts 21 twice 0",
-                    "region step-on:", "+ wait cost 50"]
+        expected = [
+            "- whole figure 96078 attempts 21 twice 0",
+            "+ whole figure 106128 attempts 21 twice 0",
+            "region step-on:",
+            "+ wait cost 50",
+        ]
         self.assertEqual(self.diff(old, new), (1, expected))
         status, lines = self.diff(assemble(old)[0], assemble(new)[0], ".store")
         self.assertEqual((status, lines), (1, [*expected[:2], "region 5:", "+ 25 cost 50"]))
@@ -247,19 +267,38 @@ class Diff(Folder):
 
     def test_one_region_more(self) -> None:
         """All numbers behind it move, and none of them is told."""
-        new = SWEEP.replace(b"    branch to sweep(from)\nregion sweep",
-                            b"    branch to pause\nregion pause\n    add(from, from) cost 9\n    branch to sweep(from)\nregion sweep")
+        new = SWEEP.replace(
+            b"    branch to sweep(from)\nregion sweep",
+            b"    branch to pause\nregion pause\n    add(from, from) cost 9\n    branch to sweep(from)\nregion sweep",
+        )
         status, lines = self.diff(assemble(SWEEP)[0], assemble(new)[0], ".store")
         self.assertEqual(status, 1)
-        self.assertEqual(lines, ["- whole figure 7619 attempts 7 twice 0", "+ whole figure 7628 attempts 8 twice 0",
-                                 "region 0:", "- branch to 1", "- pass 1 in c0", "+ branch to new1", "region new1, which is new:",
-                                 "+ in - limit 1", "+ new d1.0 = 3(c0, c0) : 2 cost 9", "+ branch to 1", "+ pass 1 in c0"])
+        self.assertEqual(
+            lines,
+            [
+                "- whole figure 7619 attempts 7 twice 0",
+                "+ whole figure 7628 attempts 8 twice 0",
+                "region 0:",
+                "- branch to 1",
+                "- pass 1 in c0",
+                "+ branch to new1",
+                "region new1, which is new:",
+                "+ in - limit 1",
+                "+ new d1.0 = 3(c0, c0) : 2 cost 9",
+                "+ branch to 1",
+                "+ pass 1 in c0",
+            ],
+        )
 
     def test_a_change_in_each_part(self) -> None:
-        for good, bad, told in ((b"limit 401", b"limit 400", "+ in 2 limit 400"), (b"test 2", b"test 3", "+ record entry start test 3"),
-                                (b"cost 12", b"cost 13", "+ set(f) cost 13"), (b"below(next,", b"below(f,", "+ more = below(f, stop)"),
-                                (b"to sweep(next), done", b"to sweep(f), done", "+ pass sweep in f"),
-                                (b"    return", b"    exit 9", "+ exit 9")):
+        for good, bad, told in (
+            (b"limit 401", b"limit 400", "+ in 2 limit 400"),
+            (b"test 2", b"test 3", "+ record entry start test 3"),
+            (b"cost 12", b"cost 13", "+ set(f) cost 13"),
+            (b"below(next,", b"below(f,", "+ more = below(f, stop)"),
+            (b"to sweep(next), done", b"to sweep(f), done", "+ pass sweep in f"),
+            (b"    return", b"    exit 9", "+ exit 9"),
+        ):
             with self.subTest(bad=bad):
                 status, lines = self.diff(SWEEP, SWEEP.replace(good, bad))
                 self.assertEqual(status, 1)
@@ -311,8 +350,9 @@ class Json(Folder):
         bad = put(self.path("bad.routine"), SWEEP.replace(b"below(next", b"belw(nxt"))
         made = self.document(1, "nest", good, refused, bad, "--clock", "10MHz")
         one, two, three = made["routines"]
-        self.assertEqual((one["outcome"], one["figure"], one["seconds"], one["sheet"][1]),
-                         ("whole", 11, 1.1e-06, "region 0 in - kids 0,3 out n3.0"))
+        self.assertEqual(
+            (one["outcome"], one["figure"], one["seconds"], one["sheet"][1]), ("whole", 11, 1.1e-06, "region 0 in - kids 0,3 out n3.0")
+        )
         self.assertEqual((two["outcome"], two["refusal"]), ("refused", {"number": 11, "word": 0}))
         self.assertEqual([(fault["line"], fault["column"]) for fault in three["faults"]], [(15, 12), (15, 17)])
         self.assertEqual(self.document(0, "show", good)["routines"][0]["record"][0], "record regions 4 entry 0 test 2 constants 2,2")
@@ -347,8 +387,10 @@ class Version(unittest.TestCase):
 def disagreeing(version: str) -> list[str]:
     """The files that have another version. Header and page of changes leave out a last 0."""
     short = version.removesuffix(".0")
-    places = {"interface/rust/Cargo.toml": rf'(?m)^version = "{re.escape(version)}"$',
-              "interface/rukvetta.h": rf"\A/\*\n \* Rukvetta {re.escape(short)}:"}
+    places = {
+        "interface/rust/Cargo.toml": rf'(?m)^version = "{re.escape(version)}"$',
+        "interface/rukvetta.h": rf"\A/\*\n \* Rukvetta {re.escape(short)}:",
+    }
     found = [name for name, pattern in places.items() if not re.search(pattern, page(name))]
     newest = re.findall(r"(?m)^## (\d[\d.]*\d),", page("CHANGELOG.md"))[0]
     return found + ["CHANGELOG.md"] * (newest not in (short, version))

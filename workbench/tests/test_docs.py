@@ -23,8 +23,14 @@ def link_tree(folder: str) -> None:
 
 def run_line(line: str, folder: str) -> subprocess.CompletedProcess[bytes]:
     """Run a line of a page, as a person would."""
-    return subprocess.run(line, shell=True, cwd=folder, capture_output=True, check=False,
-                          env={**os.environ, "RUKVETTA_PROGRAMS": os.path.abspath(programs.folder)})
+    return subprocess.run(
+        line,
+        shell=True,
+        cwd=folder,
+        capture_output=True,
+        check=False,
+        env={**os.environ, "RUKVETTA_PROGRAMS": os.path.abspath(programs.folder)},
+    )
 
 
 def page(name: str) -> str:

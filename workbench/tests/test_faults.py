@@ -26,8 +26,12 @@ class AllAtOnce(unittest.TestCase):
         self.assertEqual(self.places(source), [(6, 25), (12, 33), (15, 12), (15, 17)])
 
     def test_lines_that_do_not_parse(self) -> None:
-        source = SWEEP.replace(b"type hertz 2", b"type hertz two").replace(b"branch to sweep", b"branch tow sweep").replace(
-            b"    set(f)\n", b"    set(f\n").replace(b"region done", b"region done 7")
+        source = (
+            SWEEP.replace(b"type hertz 2", b"type hertz two")
+            .replace(b"branch to sweep", b"branch tow sweep")
+            .replace(b"    set(f)\n", b"    set(f\n")
+            .replace(b"region done", b"region done 7")
+        )
         self.assertEqual(self.places(source), [(2, 12), (11, 12), (13, 10), (18, 13)])
 
     def test_both_kinds(self) -> None:
@@ -40,11 +44,17 @@ class AllAtOnce(unittest.TestCase):
 
     def test_what_only_follows_from_a_fault_is_not_told(self) -> None:
         """A name that a faulty line would have defined is not unknown as well."""
-        for good, bad in ((b"opcode add 3 : hertz cost 2", b"opcode add three : hertz cost 2"), (b"type hertz 2", b"type hertz"),
-                          (b"constant from : hertz", b"constant from hertz"), (b"next = add(f, step)", b"next = add(f step)"),
-                          (b"region sweep in f : hertz limit 401", b"region sweep in f : limit 401"),
-                          (b"next = add(", b"next = ad("), (b"type hertz 2", b"type hertz 256"),
-                          (b"select bool more to", b"select bool more too"), (b"record entry start", b"record entry start 7")):
+        for good, bad in (
+            (b"opcode add 3 : hertz cost 2", b"opcode add three : hertz cost 2"),
+            (b"type hertz 2", b"type hertz"),
+            (b"constant from : hertz", b"constant from hertz"),
+            (b"next = add(f, step)", b"next = add(f step)"),
+            (b"region sweep in f : hertz limit 401", b"region sweep in f : limit 401"),
+            (b"next = add(", b"next = ad("),
+            (b"type hertz 2", b"type hertz 256"),
+            (b"select bool more to", b"select bool more too"),
+            (b"record entry start", b"record entry start 7"),
+        ):
             with self.subTest(bad=bad):
                 self.assertIn(good, SWEEP)
                 self.assertEqual(len(faults_of(SWEEP.replace(good, bad))), 1, faults_of(SWEEP.replace(good, bad)))
@@ -57,7 +67,7 @@ class AllAtOnce(unittest.TestCase):
             for at, line in enumerate(lines):
                 code = line.split(b"#")[0].rstrip()
                 for end in (b" %", b";", b" ( (") if code else ():
-                    found = faults_of(b"\n".join([*lines[:at], code + end, *lines[at + 1:]]))
+                    found = faults_of(b"\n".join([*lines[:at], code + end, *lines[at + 1 :]]))
                     self.assertEqual([place for place, _, _ in found], [at + 1], (name, code, found))
                     spoilt += 1
         self.assertGreater(spoilt, 3000)
@@ -145,11 +155,18 @@ class Streams(unittest.TestCase):
 
     def run_shell(self, line: str) -> tuple[int, str]:
         """The status of a line, and what it says on standard error."""
-        env = {**os.environ, "RUKVETTA_PROGRAMS": programs.folder, "PATH": os.pathsep.join((WORKBENCH, os.environ["PATH"])),
-               "R": os.path.join(CATALOGUE, "case-a.routine"), "C": CATALOGUE, "RUKVETTA": os.path.join(ROOT, "bin", "rukvetta")}
+        env = {
+            **os.environ,
+            "RUKVETTA_PROGRAMS": programs.folder,
+            "PATH": os.pathsep.join((WORKBENCH, os.environ["PATH"])),
+            "R": os.path.join(CATALOGUE, "case-a.routine"),
+            "C": CATALOGUE,
+            "RUKVETTA": os.path.join(ROOT, "bin", "rukvetta"),
+        }
         with tempfile.TemporaryDirectory() as folder:
-            done = subprocess.run(line, shell=True, cwd=folder, env=env, stdin=subprocess.DEVNULL, capture_output=True, check=False,
-                                  timeout=120)
+            done = subprocess.run(
+                line, shell=True, cwd=folder, env=env, stdin=subprocess.DEVNULL, capture_output=True, check=False, timeout=120
+            )
         self.assertNotIn(b"Traceback", done.stderr + done.stdout)
         self.assertNotIn(b"Exception ignored", done.stderr)
         return done.returncode, done.stderr.decode()
@@ -163,8 +180,10 @@ class Streams(unittest.TestCase):
             self.says(2, "standard input: it is closed\n", f"{command_line} <&-")
             self.says(2, "standard input: Is a directory\n", f"{command_line} < /")
         status, said = self.run_shell("assemble < /dev/zero")
-        self.assertEqual((status, said.split("\n")[0]),
-                         (1, "source: line 1, column 1: found a source of more than 262,144 bytes, expected a shorter one"))
+        self.assertEqual(
+            (status, said.split("\n")[0]),
+            (1, "source: line 1, column 1: found a source of more than 262,144 bytes, expected a shorter one"),
+        )
         self.says(1, "-: refused 1 0\n", "report - -o p.html < /dev/zero")
         self.says(1, "/dev/zero: refused 1 0\n", "report /dev/zero -o p.html")
         self.says(1, "", "explain - < /dev/zero")

@@ -62,20 +62,30 @@ class Install(Folder):
         self.assertEqual(self.run_it(program, "report", source, "-o", os.path.join(self.folder, "p.html"), **here), (0, ""))
         self.assertEqual(self.run_it(program, "check", CATALOGUE, **here)[0], 0)
         installed = all_files(self.prefix)
-        for name in ("bin/nest", "bin/show", "lib/librukvetta.a", "include/rukvetta.h", "include/rukvetta_sheet.h",
-                     "lib/pkgconfig/rukvetta.pc", "share/doc/rukvetta/NOTICE", "share/man/man1/rukvetta.1", "share/man/man1/nest.1", "share/man/man3/rukvetta_nest.3"):
+        for name in (
+            "bin/nest",
+            "bin/show",
+            "lib/librukvetta.a",
+            "include/rukvetta.h",
+            "include/rukvetta_sheet.h",
+            "lib/pkgconfig/rukvetta.pc",
+            "share/doc/rukvetta/NOTICE",
+            "share/man/man1/rukvetta.1",
+            "share/man/man1/nest.1",
+            "share/man/man3/rukvetta_nest.3",
+        ):
             self.assertIn(name, installed)
         for name in "LICENSE-MIT", "LICENSE-APACHE":
             self.assertEqual(f"share/doc/rukvetta/{name}" in installed, os.path.exists(os.path.join(ROOT, name)))
         self.assertIn(f"Rukvetta {version}", read(self.prefix, "share", "man", "man1", "rukvetta.1"))
-        self.assertEqual(self.install(self.prefix)[0], 0)       # over itself
+        self.assertEqual(self.install(self.prefix)[0], 0)  # over itself
         self.assertEqual(self.uninstall(self.prefix)[0], 0)
         self.assertEqual(os.listdir(self.prefix), [])
         self.assertEqual(self.uninstall(self.prefix)[0], 3)
 
     @unittest.skipUnless(shutil.which("cc") and shutil.which("pkg-config"), "there is no cc or no pkg-config here")
     def test_a_program_in_c(self) -> None:
-        prefix = os.path.join(self.folder, "prefix")        # pkg-config's flags are words of a shell
+        prefix = os.path.join(self.folder, "prefix")  # pkg-config's flags are words of a shell
         self.assertEqual(self.install(prefix)[0], 0)
         found = {"PKG_CONFIG_PATH": os.path.join(prefix, "lib", "pkgconfig")}
         self.assertEqual(self.run_it("pkg-config", "--modversion", "rukvetta", **found), (0, read(ROOT, "VERSION")))
@@ -184,9 +194,13 @@ class Manual(unittest.TestCase):
     @unittest.skipUnless(shutil.which("man"), "there is no man here")
     def test_they_can_be_set(self) -> None:
         for name in sorted(os.listdir(MAN)):
-            if name != "rukvetta_accept.3":         # which leads to another
-                done = subprocess.run(["man", "--warnings=w", "-E", "UTF-8", "-l", os.path.join(MAN, name)], capture_output=True,
-                                      check=False, env={**os.environ, "MANWIDTH": "100"})
+            if name != "rukvetta_accept.3":  # which leads to another
+                done = subprocess.run(
+                    ["man", "--warnings=w", "-E", "UTF-8", "-l", os.path.join(MAN, name)],
+                    capture_output=True,
+                    check=False,
+                    env={**os.environ, "MANWIDTH": "100"},
+                )
                 self.assertEqual((done.returncode, done.stderr), (0, b""), name)
                 self.assertIn(b"Rukvetta", done.stdout)
 

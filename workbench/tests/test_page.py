@@ -100,13 +100,15 @@ class Page(browser.InBrowser):
 
     def dear_edges(self) -> list[str]:
         """The marked arrows by the regions at their ends."""
-        return self.browser.run("""
+        return self.browser.run(
+            """
             const box = id => document.getElementById('graph-' + id).querySelector('rect').getBBox();
             const count = document.querySelectorAll('svg.graph a.box').length;
             const near = (point, b) => Math.max(b.x - point.x, point.x - b.x - b.width, b.y - point.y, point.y - b.y - b.height, 0);
             const closest = point => [...Array(count).keys()].sort((a, b) => near(point, box(a)) - near(point, box(b)))[0];
             return [...document.querySelectorAll('svg.graph .edge.dear path')].map(path =>
-                closest(path.getPointAtLength(0)) + '>' + closest(path.getPointAtLength(path.getTotalLength())))""")
+                closest(path.getPointAtLength(0)) + '>' + closest(path.getPointAtLength(path.getTotalLength())))"""
+        )
 
     # Names.
 
@@ -116,11 +118,12 @@ class Page(browser.InBrowser):
         nest = self.browser.texts("svg.nest text")
         for text in "l = low", "l ← next", "set-level(l)", "next = add(l, l-step)":
             self.assertIn(text, nest)
-        for text in "f ← step-on.next", "repeat while step-on.more", "next = add(outer.f, f-step)":     # `inner` has these names too
+        for text in "f ← step-on.next", "repeat while step-on.more", "next = add(outer.f, f-step)":  # `inner` has these names too
             self.assertIn(text, nest)
         self.assertFalse([text for text in nest if "i2." in text])
-        self.assertEqual(set(self.browser.run("return [...document.querySelectorAll('.moved')].map(e => e.textContent + e.dataset.is)")),
-                         {"i2.0l"})
+        self.assertEqual(
+            set(self.browser.run("return [...document.querySelectorAll('.moved')].map(e => e.textContent + e.dataset.is)")), {"i2.0l"}
+        )
 
     def test_a_store_without_names(self) -> None:
         self.open({**catalogue_texts("ramp-nested"), "names": ""})
@@ -130,13 +133,15 @@ class Page(browser.InBrowser):
 
     def test_which_input_is_not_known(self) -> None:
         """Two inputs of one type that nothing reads, of which one stays: it has a word of its own."""
-        record = "record regions 3 entry 0 test 0 constants 2\nregion 0 in - limit 1\nbranch to 1\npass 1 in c0,c0\nexits -\n" \
-                 "region 1 in 2,2 limit 3\nselect bool true to 1,2\npass 1 in i1.0,c0\npass 2 in -\nexits 2\n" \
-                 "region 2 in - limit 1\nreturn -\nexits -\n"
+        record = (
+            "record regions 3 entry 0 test 0 constants 2\nregion 0 in - limit 1\nbranch to 1\npass 1 in c0,c0\nexits -\n"
+            "region 1 in 2,2 limit 3\nselect bool true to 1,2\npass 1 in i1.0,c0\npass 2 in -\nexits 2\n"
+            "region 2 in - limit 1\nreturn -\nexits -\n"
+        )
         sheet = programs.nest(assemble(record.encode())[0])
         self.open({"record": record, "sheet": sheet, "names": "", "explained": ""})
         self.assertIn("i1.1 = c0", self.browser.texts("svg.nest text"))
-        unclear = record.replace("pass 1 in i1.0,c0", "pass 1 in c0,c0")      # another record than the sheet's
+        unclear = record.replace("pass 1 in i1.0,c0", "pass 1 in c0,c0")  # another record than the sheet's
         self.open({"record": unclear, "sheet": sheet, "names": "", "explained": ""})
         self.assertIn("loop1.0 = c0", self.browser.texts("svg.nest text"))
 
@@ -161,8 +166,10 @@ class Page(browser.InBrowser):
                 self.assertEqual(reached, {0} | {to for _, to in edges})
 
     def region_ends(self) -> list[str]:
-        return self.browser.run("""return [...document.querySelectorAll('svg.graph a.box')].map(box =>
-            [...box.querySelectorAll('text:not(.faint):not(.share)')].pop().textContent)""")
+        return self.browser.run(
+            """return [...document.querySelectorAll('svg.graph a.box')].map(box =>
+            [...box.querySelectorAll('text:not(.faint):not(.share)')].pop().textContent)"""
+        )
 
     # What can be read.
 
@@ -193,9 +200,11 @@ class Page(browser.InBrowser):
         self.assertEqual(self.browser.count("svg.graph a.box"), 32)
         self.assertGreaterEqual(self.scale() * 12, 10)
         self.click("fit")
-        fits = self.browser.run("""
+        fits = self.browser.run(
+            """
             const frame = document.querySelector('.scroll'), size = document.querySelector('svg.graph').getBoundingClientRect();
-            return [size.width <= frame.clientWidth + 1, size.height <= innerHeight, frame.scrollWidth <= frame.clientWidth + 1]""")
+            return [size.width <= frame.clientWidth + 1, size.height <= innerHeight, frame.scrollWidth <= frame.clientWidth + 1]"""
+        )
         self.assertEqual(fits, [True, True, True])
         small = self.scale()
         self.click("1:1")
@@ -211,20 +220,26 @@ class Page(browser.InBrowser):
         self.open(program_texts(store_of_32()))
         self.click("1:1")
         before = self.scrolled()
-        self.browser.run("""
+        self.browser.run(
+            """
             const frame = document.querySelector('.scroll'), box = frame.getBoundingClientRect();
             const at = (type, x, y, on) => on.dispatchEvent(new PointerEvent(type, { clientX: box.left + x, clientY: box.top + y,
                 button: 0, pointerType: 'mouse', bubbles: true }));
-            at('pointerdown', 300, 200, frame); at('pointermove', 220, 120, window); at('pointerup', 220, 120, window);""")
+            at('pointerdown', 300, 200, frame); at('pointermove', 220, 120, window); at('pointerup', 220, 120, window);"""
+        )
         self.assertEqual(self.scrolled(), [before[0] + 80, before[1] + 80])
 
     def scale(self) -> float:
-        return self.browser.run("const svg = document.querySelector('svg.graph'); "
-                                "return svg.getBoundingClientRect().width / svg.width.baseVal.value")
+        return self.browser.run(
+            "const svg = document.querySelector('svg.graph'); " "return svg.getBoundingClientRect().width / svg.width.baseVal.value"
+        )
 
     def click(self, name: str) -> None:
-        self.browser.run("[...document.querySelectorAll('figure')][0].querySelectorAll('.tools button').forEach("
-                         "button => button.textContent === arguments[0] && button.click())", name)
+        self.browser.run(
+            "[...document.querySelectorAll('figure')][0].querySelectorAll('.tools button').forEach("
+            "button => button.textContent === arguments[0] && button.click())",
+            name,
+        )
 
     def scrolled(self) -> list[int]:
         return self.browser.run("const frame = document.querySelector('.scroll'); return [frame.scrollLeft, frame.scrollTop]")

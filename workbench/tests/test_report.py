@@ -35,7 +35,8 @@ class Page(browser.InBrowser):
 
     def linked(self) -> tuple[int, int]:
         """Every line of the sheet leads to a box that can be seen, every box to a line; no text stands out of its box."""
-        lines, boxes, lost, out = self.browser.run("""
+        lines, boxes, lost, out = self.browser.run(
+            """
             const rows = [...document.querySelectorAll('li[data-box]')], boxes = [...document.querySelectorAll('svg a.box')];
             const seen = id => {
                 const size = (document.getElementById(id) || document.createElement('i')).getBoundingClientRect();
@@ -48,7 +49,8 @@ class Page(browser.InBrowser):
             return [rows.length, boxes.length,
                 [...rows.map(r => r.dataset.box), ...boxes.map(b => b.getAttribute('href').slice(1))].filter(id => !seen(id)),
                 [...document.querySelectorAll('svg a.box text, svg .note text')]
-                    .filter(text => !stands(text, text.parentNode.querySelector('rect'))).map(text => text.textContent)]""")
+                    .filter(text => !stands(text, text.parentNode.querySelector('rect'))).map(text => text.textContent)]"""
+        )
         self.assertEqual(([], []), (lost, out))
         return lines, boxes
 
@@ -71,14 +73,15 @@ class Page(browser.InBrowser):
         marked = "return [...document.querySelectorAll(arguments[0])].map(e => e.id)"
         self.assertEqual(self.browser.run(marked, "svg.graph a.dear"), ["graph-0", "graph-2", "graph-3"])
         self.assertEqual(self.browser.count("svg.graph .edge.dear"), 2)
-        self.assertEqual(self.browser.run(marked, "svg.nest a.dear"),
-                         ["nest-region-0", "nest-node-0", "nest-node-3", "nest-region-2", "nest-node-2"])
+        self.assertEqual(
+            self.browser.run(marked, "svg.nest a.dear"), ["nest-region-0", "nest-node-0", "nest-node-3", "nest-region-2", "nest-node-2"]
+        )
 
     def test_a_way_back_is_marked_where_the_path_takes_it(self) -> None:
         labels = "return [...document.querySelectorAll('svg.graph .edge-label.dear text')].map(e => e.textContent)"
         self.open("sweep-stepped")
         self.assertEqual(self.browser.run(labels), ["(from)", "true (next)", "false"])
-        self.open("front-panel")        # the key that does nothing leads back too, and is not the dearest
+        self.open("front-panel")  # the key that does nothing leads back too, and is not the dearest
         self.assertEqual(self.browser.run(labels), ["(f0, l0)", "4 (f, l)", "6 (f, l)", "(f, l)"])
 
     def test_a_region_has_one_colour(self) -> None:
@@ -99,17 +102,22 @@ class Page(browser.InBrowser):
 
     def test_a_loop(self) -> None:
         self.open("sweep-stepped")
-        self.assertEqual(self.browser.texts("#nest-node-4 text"),
-                         ["loop sweep", "100%", "f = from", "f ← next", "repeat while more", "≤ 401 turns"])
+        self.assertEqual(
+            self.browser.texts("#nest-node-4 text"), ["loop sweep", "100%", "f = from", "f ← next", "repeat while more", "≤ 401 turns"]
+        )
         self.assertIn("next = add(f, step)", self.browser.texts("svg.nest text"))
         self.assertEqual(self.browser.count("svg.graph .edge.back"), 1)
 
     def test_an_exit_has_the_colour_of_its_region(self) -> None:
         self.open("self-test")
         for region, text in (2, "exit passed"), (3, "exit failed"):
-            hue, nest = self.browser.run("""
+            hue, nest = self.browser.run(
+                """
                 const exit = [...document.querySelectorAll('svg.nest a.box')].find(a => a.textContent.includes(arguments[1]));
-                return [document.getElementById('graph-' + arguments[0]).style.cssText, exit.style.cssText]""", region, text)
+                return [document.getElementById('graph-' + arguments[0]).style.cssText, exit.style.cssText]""",
+                region,
+                text,
+            )
             self.assertEqual(hue, nest)
 
     def test_a_leftover_shows_its_branches(self) -> None:
@@ -202,8 +210,9 @@ class Command(unittest.TestCase):
                 text = page.read()
             self.assertIn("whole figure 11 attempts 8 twice 0", text)
             self.assertEqual(command("report", *paths, paths[0], "-o", index), (1, b"", f"{paths[2]}: refused 11 0\n"))
-            self.assertEqual(sorted(os.listdir(os.path.join(folder, "all"))),
-                             ["calibration.html", "case-a-2.html", "case-a.html", "monitor.html"])
+            self.assertEqual(
+                sorted(os.listdir(os.path.join(folder, "all"))), ["calibration.html", "case-a-2.html", "case-a.html", "monitor.html"]
+            )
             with open(index, encoding="utf-8") as page:
                 text = page.read()
             for part in 'href="all/case-a.html">case-a<', "refused 11 0", "untouched", "4 routines":

@@ -38,8 +38,11 @@ class Limits(unittest.TestCase):
     def test_a_way_back_needs_a_limit(self) -> None:
         [(line, column, said)] = faults_of(SWEEP.replace(b" limit 401", b""))
         self.assertEqual((line, column), (12, 8))
-        self.assertEqual(said, "found region sweep without a limit, to which region sweep leads back, expected `limit N`: "
-                         "how many turns the loop takes at most, 1 to 65535")
+        self.assertEqual(
+            said,
+            "found region sweep without a limit, to which region sweep leads back, expected `limit N`: "
+            "how many turns the loop takes at most, 1 to 65535",
+        )
 
     def test_an_exit_list_needs_a_limit(self) -> None:
         [(line, column, said)] = faults_of(b"record\nregion a\nbranch to b\nregion b\nreturn\nexits a\n")
@@ -59,7 +62,7 @@ class Limits(unittest.TestCase):
         needed = free = 0
         for name, source in catalogue().items():
             for limit in re.finditer(rb" limit [0-9]+", source):
-                found = faults_of(source[:limit.start()] + source[limit.end():])
+                found = faults_of(source[: limit.start()] + source[limit.end() :])
                 free += not found
                 for line, _, said in found:
                     self.assertEqual(line, source.count(b"\n", 0, limit.start()) + 1, name)
@@ -86,13 +89,19 @@ class Costs(unittest.TestCase):
     def test_an_instruction_needs_a_cost(self) -> None:
         (line, column, said), second = faults_of(self.SOURCE)
         self.assertEqual((line, column), (4, 5))
-        self.assertEqual(said, "found `go` without a cost, expected `cost N` behind the instruction or in the opcode's definition, "
-                         "or `default cost 0` once in the source")
+        self.assertEqual(
+            said,
+            "found `go` without a cost, expected `cost N` behind the instruction or in the opcode's definition, "
+            "or `default cost 0` once in the source",
+        )
         self.assertEqual(second[:2], (5, 5))
 
     def test_each_place_for_it(self) -> None:
-        for source in (self.SOURCE.replace(b"go 7", b"go 7 cost 3").replace(b"8\n", b"8 cost 0\n"),
-                       b"default cost 0\n" + self.SOURCE, self.SOURCE.replace(b"record\n", b"record\ndefault cost 0\n")):
+        for source in (
+            self.SOURCE.replace(b"go 7", b"go 7 cost 3").replace(b"8\n", b"8 cost 0\n"),
+            b"default cost 0\n" + self.SOURCE,
+            self.SOURCE.replace(b"record\n", b"record\ndefault cost 0\n"),
+        ):
             self.assertEqual([], faults_of(source))
         record = assemble(b"default cost 2\n" + self.SOURCE.replace(b"8\n", b"8 cost 5\n"))[1]
         self.assertEqual([one.cost for one in record.regions[0].instructions()], [2, 5])
@@ -109,7 +118,7 @@ class Costs(unittest.TestCase):
         for name, source in catalogue().items():
             for cost in re.finditer(rb"(?m)^opcode ([\w-]+) .*?( cost [0-9]+)", source):
                 with self.subTest(name=name, opcode=cost[1]):
-                    found = faults_of(source[:cost.start(2)] + source[cost.end(2):])
+                    found = faults_of(source[: cost.start(2)] + source[cost.end(2) :])
                     used = len(re.findall(rb"(?m)^ +(?:[\w-]+ = )?" + cost[1] + rb"(?![\w-])(?!.* cost )", source))
                     self.assertEqual(len(found), used)
 
