@@ -46,17 +46,36 @@ class Lint(unittest.TestCase):
                 "d": "#!/usr/bin/env bash\n",
                 "e": "text\n",
                 "f.c": "",
+                "g": '#!/bin/sh\n""":"\nexec python3 "$0"\n":"""\n',
             }
             for name, text in texts.items():
                 (folder / name).write_text(text)
             found = [lint.language(folder / name) for name in texts]
-        self.assertEqual(found, ["python", "python", "shell", "shell", "", ""])
+        self.assertEqual(found, ["python", "python", "shell", "shell", "", "", "python"])
 
     def test_scripts(self) -> None:
-        """Scripts without a suffix are among those that are checked."""
+        """Scripts without a suffix are among those that are checked, and those beside the folders."""
         lint = script(FOLDER / "lint")
-        self.assertIn("tools/lint", lint.scripts(FOLDER.parent, "python"))
-        self.assertIn("bench/run", lint.scripts(FOLDER.parent, "shell"))
+        python, shell = lint.scripts(FOLDER.parent, "python"), lint.scripts(FOLDER.parent, "shell")
+        for name in "tools/lint", "bin/rukvetta", "workbench/report", "workbench/rukvetta/command.py", "workbench/tests/support.py":
+            self.assertIn(name, python)
+        for name in "bench/run", "install", "uninstall":
+            self.assertIn(name, shell)
+
+    def test_no_command_left_out(self) -> None:
+        """Whatever can be run and stands outside of crates/ is checked."""
+        lint = script(FOLDER / "lint")
+        known = {*lint.scripts(FOLDER.parent, "python"), *lint.scripts(FOLDER.parent, "shell")}
+        every = [path.relative_to(FOLDER.parent) for path in FOLDER.parent.rglob("*") if path.is_file() and os.access(path, os.X_OK)]
+        found = {str(path) for path in every if not {"crates", "target", ".git"} & set(path.parts)}
+        self.assertEqual(found - known, set())
+
+    def test_head(self) -> None:
+        """The shell in front of Python is cut out, its lines at their places; there is none in front of other scripts."""
+        lint = script(FOLDER / "lint")
+        self.assertEqual(lint.head('#!/bin/sh\n""":"\nexec it\n":"""\nimport os\n'), "#!/bin/sh\n\nexec it\n")
+        self.assertEqual(lint.head("#!/bin/sh\nexec it\n"), "")
+        self.assertEqual(lint.head(""), "")
 
 
 def untyped(text: str) -> list[str]:
@@ -65,9 +84,9 @@ def untyped(text: str) -> list[str]:
     todo: list[ast.AST] = [ast.parse(text)]
     while todo:
         for node in ast.iter_child_nodes(todo.pop()):
-            if isinstance(node, ast.ClassDef):
+            if not isinstance(node, (ast.FunctionDef, ast.AsyncFunctionDef)):
                 todo.append(node)
-            elif isinstance(node, ast.FunctionDef) and (node.name == "__init__" or not node.name.startswith("_")):
+            elif node.name == "__init__" or not node.name.startswith("_"):
                 every = node.args.posonlyargs + node.args.args + node.args.kwonlyargs + [node.args.vararg, node.args.kwarg]
                 given = [one for one in every if one is not None and one.arg not in ("self", "cls")]
                 if node.returns is None or any(one.annotation is None for one in given):
@@ -79,10 +98,11 @@ class Types(unittest.TestCase):
     """Python has types on public functions."""
 
     def test_untyped(self) -> None:
-        """A function without a type is found, at the top and in a class; an inner one is not."""
+        """A function without a type is found, at the top, in a class and below a condition; an inner one is not."""
         text = "def a(x: int) -> int:\n    def c(y): pass\n\ndef b(x): pass\n\n"
-        text += "class D:\n    def e(self): pass\n\n    def f(self) -> None: pass\n"
-        self.assertEqual(sorted(untyped(text)), ["b", "e"])
+        text += "class D:\n    def e(self): pass\n\n    def f(self) -> None: pass\n\n"
+        text += "if a(0):\n    async def g(*x) -> None: pass\n\n    def h(**x: int): pass\n"
+        self.assertEqual(sorted(untyped(text)), ["b", "e", "g", "h"])
 
     def test_all_scripts(self) -> None:
         """All scripts have them."""
