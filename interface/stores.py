@@ -39,6 +39,9 @@ def main(folder: pathlib.Path) -> None:
 
 
 if __name__ == "__main__":
+    if sys.argv[1:] in (["-h"], ["--help"]):
+        print(__doc__.strip())
+        sys.exit(0)
     if len(sys.argv) != 2 or not pathlib.Path(sys.argv[1]).is_dir():
         refuse("usage: python3 interface/stores.py FOLDER, an existing folder")
     try:

@@ -67,6 +67,10 @@ def measured(look: Browser, text: str) -> list[list[float]]:
 
 
 def main() -> None:
+    """Measures, and prints what was measured."""
+    if sys.argv[1:] in (["-h"], ["--help"]):
+        print(__doc__.strip())
+        return
     if sys.argv[1:]:
         print("measure: nothing stands behind the command", file=sys.stderr)
         sys.exit(USAGE)

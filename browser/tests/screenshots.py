@@ -38,6 +38,10 @@ def refuse(sentence: str, status: int) -> None:
 
 
 def main() -> None:
+    """Makes the pictures."""
+    if sys.argv[1:] in (["-h"], ["--help"]):
+        print(__doc__.strip())
+        return
     folder = pathlib.Path(sys.argv[1]) if sys.argv[1:] else ROOT / "browser" / "docs"
     if len(sys.argv) > 2 or not folder.is_dir():
         refuse("usage: /usr/bin/python3 -m browser.tests.screenshots [FOLDER], an existing folder", USAGE)

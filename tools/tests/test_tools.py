@@ -12,7 +12,6 @@ import unittest
 from tools.tests.loading import script
 
 FOLDER = pathlib.Path(__file__).resolve().parents[1]
-COMMANDS = "beside", "compute", "edit", "lint", "pages", "situations", "status", "test"
 
 
 class Edit(unittest.TestCase):
@@ -163,22 +162,6 @@ class Status(unittest.TestCase):
         """Another program is refused with status 2."""
         told = subprocess.run([FOLDER / "status", "ls"], capture_output=True)
         self.assertEqual(told.returncode, 2)
-
-
-class Commands(unittest.TestCase):
-    """What a person types."""
-
-    def test_help(self) -> None:
-        """Each command answers --help."""
-        for name in COMMANDS:
-            told = subprocess.run([FOLDER / name, "--help"], capture_output=True, text=True, timeout=60)
-            self.assertEqual((told.returncode, told.stderr), (0, ""), name)
-            self.assertIn(f"tools/{name}", told.stdout)
-
-    def test_all_commands(self) -> None:
-        """No command is left out above."""
-        found = [path.name for path in FOLDER.iterdir() if path.is_file() and os.access(path, os.X_OK)]
-        self.assertEqual(sorted(found), sorted(COMMANDS))
 
 
 if __name__ == "__main__":

@@ -56,7 +56,7 @@ def prepare() -> None:
             closed.add(descriptor)
             os.open(os.devnull, os.O_RDWR)
     if sys.stderr is None:
-        sys.stderr = open(os.devnull, "w", encoding="utf-8")  # noqa: SIM115 (open to the end)
+        sys.stderr = open(os.devnull, "w", encoding="utf-8")  # open to the end
     if sys.stdout is None:
         sys.stdout = Closed()
     elif isinstance(sys.stdout, io.TextIOWrapper):  # a name or a locale may not be UTF-8

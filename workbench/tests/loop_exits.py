@@ -19,6 +19,9 @@ def main() -> None:
 
 
 if __name__ == "__main__":
+    if sys.argv[1:] in (["-h"], ["--help"]):
+        print(__doc__.strip())
+        sys.exit(0)
     if sys.argv[1:]:
         print("loop_exits.py: it takes standard input alone", file=sys.stderr)
         sys.exit(2)

@@ -75,6 +75,10 @@ def varied_routines(folder: str) -> None:
 
 
 def main() -> None:
+    """Times each word of the command."""
+    if sys.argv[1:] in (["-h"], ["--help"]):
+        print(__doc__.strip())
+        return
     words = sys.argv[1:]
     if not words or not all(word == "routines" or (word.isdecimal() and int(word[:9])) for word in words):
         print("usage: /usr/bin/python3 -m tests.measure NUMBER... or routines, in the folder of the workbench", file=sys.stderr)

@@ -25,6 +25,9 @@ def refuse(sentence: str, status: int) -> NoReturn:
 
 def main() -> None:
     """Makes the pictures."""
+    if sys.argv[1:] in (["-h"], ["--help"]):
+        print(__doc__.strip())
+        return
     if sys.argv[1:]:
         refuse("usage: /usr/bin/python3 -m tests.screenshots, with nothing behind it", USAGE)
     if missing():
