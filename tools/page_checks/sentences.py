@@ -8,6 +8,14 @@ import re
 from dataclasses import dataclass
 from pathlib import Path
 
+# No sentence of a strict page has more words than MOST; an averaged page has no more than AVERAGE on average.
+MOST, AVERAGE = 30, 20
+STRICT = (
+    *("README.md", "CONTRIBUTING.md"),
+    *(f"docs/{name}.md" for name in ("PROVED", "COMMAND", "FORMAT", "PLAYER", "STACK", "STATE")),
+    *(f"{folder}/README.md" for folder in ("beside", "beside/harness", "beside/lists", "bench", "browser", "interface", "workbench")),
+)
+AVERAGED = "README.md", "docs/PROVED.md", "docs/PROOFS.md", "docs/DECISIONS.md"
 LABEL = 3
 END = re.compile(r"(?<=[.!?])[)\"*]*\s+(?=[\"`*(]*[A-Z0-9`]|\*\*|[a-z_]+/)")
 ITEM = re.compile(r"\s*(?:[-*]|\d+\.)\s+(.*)")
@@ -77,3 +85,12 @@ def sentences(page: Path) -> list[Sentence]:
 def average(found: list[Sentence]) -> float:
     """Words in a sentence on average; 0 of none."""
     return sum(sentence.words for sentence in found) / len(found) if found else 0.0
+
+
+def too_long(shown: str, found: list[Sentence]) -> list[str]:
+    """What is too long on a page, by its name and its sentences."""
+    long = [one for one in found if one.words > MOST] if shown in STRICT else []
+    wrong = [f"{shown}:{one.line}: {one.words} words: {one.text}" for one in long]
+    if shown in AVERAGED and average(found) > AVERAGE:
+        wrong.append(f"{shown}: more than {AVERAGE} words on average")
+    return wrong

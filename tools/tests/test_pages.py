@@ -54,6 +54,16 @@ class Sentences(WithFolder):
         self.assertEqual(sentences.average(found), 2.0)
         self.assertEqual(sentences.average([]), 0.0)
 
+    def test_too_long(self) -> None:
+        """A long sentence is told of a strict page, an average of an averaged one; both are pages that are there."""
+        long = "Word " * 30 + "end.\n"
+        found = sentences.sentences(self.write("page.md", "Short.\n\n" + long))
+        self.assertEqual(sentences.too_long("workbench/README.md", found), [f"workbench/README.md:3: 31 words: {long.strip()}"])
+        self.assertEqual(sentences.too_long("docs/PROOFS.md", found), [])
+        self.assertEqual(sentences.too_long("docs/PROOFS.md", found[1:]), ["docs/PROOFS.md: more than 20 words on average"])
+        self.assertEqual(sentences.too_long("docs/PATH.md", found), [])
+        self.assertEqual([name for name in (*sentences.STRICT, *sentences.AVERAGED) if not (ROOT / name).is_file()], [])
+
 
 class Names(WithFolder):
     """Names on pages."""
