@@ -9,8 +9,8 @@ import unittest
 from tools.tests.loading import script
 
 ROOT = pathlib.Path(__file__).resolve().parents[2]
-# Nobody types these. .ci/run takes no words, and proves all. To the other, rattle speaks as to clang.
-UNTYPED = ".ci/run", "interface/module/clang"
+# .ci/run takes no words, and proves all. Nobody types the other: rattle starts it as it starts clang.
+LEFT_OUT = ".ci/run", "interface/module/clang"
 SUBCOMMANDS = "nest", "show", "assemble", "explain", "report", "check", "diff"
 
 
@@ -22,7 +22,7 @@ def python_scripts() -> list[str]:
 def executables() -> list[str]:
     """What can be run as it is."""
     every = [*python_scripts(), *script(ROOT / "tools" / "lint").scripts(ROOT, "shell")]
-    return [name for name in every if os.access(ROOT / name, os.X_OK) and name not in UNTYPED]
+    return [name for name in every if os.access(ROOT / name, os.X_OK) and name not in LEFT_OUT]
 
 
 def module(path: pathlib.Path) -> tuple[list[str], pathlib.Path]:
