@@ -9,8 +9,8 @@ import unittest
 from tools.tests.loading import script
 
 ROOT = pathlib.Path(__file__).resolve().parents[2]
-# .ci/run takes no words, and proves all. Nobody types the other: rattle starts it as it starts clang.
-LEFT_OUT = ".ci/run", "interface/module/clang"
+# Nobody types it: rattle starts it as it starts clang.
+LEFT_OUT = ("interface/module/clang",)
 SUBCOMMANDS = "nest", "show", "assemble", "explain", "report", "check", "diff"
 
 

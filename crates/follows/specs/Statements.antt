@@ -72,8 +72,8 @@ abbrev pub Attempts : Type 0
 Attempts = (g : Graph) → Valid g → (n : Nested) → structurize-func g ≡ accepted n → FewAttempts g (n .attempts)
 
 -- 4. SOUND. All three of the sheet that the top definition gives for a store, whatever it accepts. No value of what is nested is
--- marked, so the form that runs here is the form that the sheet prints; and each names something, so that different values print
--- differently (`shown-apart`).
+-- marked, so the form that runs here is the form that the sheet prints; and none is `no-value` or an output out of range, so that
+-- different values print differently (`shown-apart`).
 pub record SoundSheet (store : List ℕ) (s : Sheet) : Type 0 where
   pub graph : Graph
   pub nest : Nested

@@ -1,4 +1,4 @@
--- What is said of the values of an answer: none is marked, and each names something. Both cover every value of each piece.
+-- What is said of the values of an answer: none is marked, none is `no-value` or an output out of range. Both cover all of each piece.
 use mathlib.Core.Path.{_≡_}
 use mathlib.Core.Bool.{Bool, true, false, _||_}
 use mathlib.Core.List.{List}
@@ -97,7 +97,7 @@ module _ (M : ℕ) where
   abbrev pub PieceNamed : Piece → Type 0
   PieceNamed p = NodesNamed (p .children) × AllNamed (p .outputs) × SetNamed (p .deferred)
 
--- Every value of what is nested names something.
+-- No value of what is nested is `no-value` or an output out of range.
 pub record NestedNamed (n : Nested) : Type 0 where
   pub entry : PieceNamed (length (n .output-nodes)) (n .entry)
   pub unclaimed : All (PieceNamed (length (n .output-nodes))) (n .unclaimed)

@@ -1,4 +1,4 @@
--- Every value of an answer names something: no `no-value`, and each output stands in the answer's list of outputs' nodes.
+-- No value of an answer is `no-value`, and each output stands in the answer's list of outputs' nodes. Of other values nothing is said.
 use mathlib.Core.Path.{_≡_, sym, subst}
 use mathlib.Core.Bool.{Bool, true, false}
 use mathlib.Core.List.{List, [], _∷_, map}
