@@ -1,6 +1,6 @@
 """In Chromium the compiled library answers every store of the fixed lists as the lists say, and as the native library does.
 
-Compared are the refusal or every word of the sheet, the words behind it, the texts, and all words of the lent state.
+Compared are the refusal or every word of the sheet, the texts; and by CRC-32 all lent words and the state.
 """
 
 import base64
