@@ -1,8 +1,8 @@
 /*
  * Rukvetta 1.0: from a store of bytes to its nested sheet.
  *
- * Two routines, each proved to answer every string of bytes as its definition
- * does. "Document 01" is the scope paper of the routine nester: it fixes store,
+ * Three routines, each proved to answer as its definition does, whatever it is
+ * lent: two for a store of bytes, one that writes a record back as a store. "Document 01" is the scope paper of the routine nester: it fixes store,
  * record, refusals and sheet. docs/REFUSALS.md says what to do about a refusal.
  *
  * Memory. A routine uses what it is lent, and a stack that is bounded below. It takes
@@ -11,7 +11,8 @@
  * after the call. Of the C library it needs memset; on a Cortex-M it needs
  * __aeabi_memcpy, __aeabi_memclr and __aeabi_memclr4, which its C library has too.
  *
- *   bytes   the store: `length` bytes, read only, any alignment
+ *   bytes   the store: `length` bytes, read only, any alignment; for rukvetta_write
+ *           `lent` bytes, in which it puts the store
  *   words   RUKVETTA_WORDS words of 16 bits, aligned for uint16_t. Any values may
  *           stand in them. One array serves any number of calls, one at a time
  *   out     `lent` words of 32 bits, aligned for uint32_t, for the sheet
@@ -106,13 +107,14 @@ enum rukvetta_refusal {
     RUKVETTA_LENGTH = 1,        /* the store's length is 0, over 8,192 or no multiple of 512; 0 */
     RUKVETTA_BLOCK_NUMBER = 2,  /* a block has another number than its place; the block */
     RUKVETTA_CHECK = 3,         /* a block's check is wrong; the block */
-    RUKVETTA_WORD_COUNT = 4,    /* W is 0, or not as many words as record or blocks have, or a word after W is not 0; 0 */
+    RUKVETTA_WORD_COUNT = 4,    /* W is 0, or not as many words as record or blocks have, or a word after W is not 0; 0.
+                                   In writing: words[0] is 0 or over RUKVETTA_RECORD_WORDS */
     RUKVETTA_RANGE = 5,         /* a count, type, kind or limit is out of range; the region, 0 before the first */
     RUKVETTA_REFERENCE = 6,     /* a region, constant or value that names nothing allowed; the region */
     RUKVETTA_TYPE = 7,          /* a value of another type, or values of another number; the region */
     RUKVETTA_EXIT_TWICE = 8,    /* an exit list names a region twice; the region */
     RUKVETTA_LIMIT = 9,         /* nesting would define more than the limits above; 0 */
-    RUKVETTA_LENT = 10,         /* the sheet has more words than were lent; 0 */
+    RUKVETTA_LENT = 10,         /* the sheet has more words, or the store more bytes, than were lent; 0 */
     RUKVETTA_FIGURE = 11        /* the figure exceeds 4,294,967,295; 0 */
 };
 
@@ -195,9 +197,21 @@ uint32_t rukvetta_accept(const uint8_t *bytes, uint64_t length, uint16_t *words)
  */
 uint64_t rukvetta_nest(const uint8_t *bytes, uint64_t length, uint16_t *words, uint32_t *out, uint64_t lent);
 
+/*
+ * Writes the record that stands in front of `words`, as rukvetta_accept or rukvetta_nest left it, back as a store: words[0] is
+ * its W. Below 65,536: the number n of the store's bytes, 512 to 8,192, which now are bytes[0] to bytes[n - 1]; bytes[n] to
+ * bytes[lent - 1] are as lent. Else refusal 4, if W is 0 or over RUKVETTA_RECORD_WORDS, or 10, if fewer than 512 bytes are lent
+ * for each block: number * 65,536, and all bytes are as lent. `words` does not change, and no word behind the first W is read.
+ *
+ * A store that was accepted is written with the same bytes. What is written is read as the same words: where a record was
+ * refused with 5 to 8 its words stand too, and are written.
+ */
+uint32_t rukvetta_write(uint16_t *words, uint8_t *bytes, uint64_t lent);
+
 /* The number and the word of a refusal; the number is 0 where the answer is none. */
 static inline unsigned rukvetta_accept_number(uint32_t answer) { return (unsigned)(answer >> 16); }
 static inline unsigned rukvetta_accept_word(uint32_t answer) { return (unsigned)(answer & 65535u); }
+static inline unsigned rukvetta_write_number(uint32_t answer) { return (unsigned)(answer >> 16); }
 static inline unsigned rukvetta_nest_number(uint64_t answer) { return (unsigned)(answer >> 32); }
 static inline unsigned rukvetta_nest_word(uint64_t answer) { return (unsigned)(answer & 4294967295u); }
 

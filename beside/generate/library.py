@@ -7,6 +7,7 @@ import re
 import shutil
 import subprocess
 import sys
+from collections.abc import Sequence
 
 ROOT = pathlib.Path(__file__).resolve().parents[2]
 HEADER = ROOT / "interface" / "rukvetta.h"
@@ -41,6 +42,7 @@ except Missing as missing:
     print(missing, file=sys.stderr)
     sys.exit(3)
 INDEX = range(*ENDS)
+MARK = 0xA5  # in each lent byte
 
 
 def linked(folder: pathlib.Path | None, into: pathlib.Path) -> pathlib.Path:
@@ -63,16 +65,22 @@ def linked(folder: pathlib.Path | None, into: pathlib.Path) -> pathlib.Path:
     )
     if done.returncode:
         raise wrong(f"cc could not link {archive}: {done.stderr.strip()}")
-    if not hasattr(ctypes.CDLL(str(path)), "rukvetta_nest"):
-        raise wrong(f"{archive} has no rukvetta_nest")
+    for routine in ("rukvetta_nest", "rukvetta_write"):
+        if not hasattr(ctypes.CDLL(str(path)), routine):
+            raise wrong(f"{archive} has no {routine}")
     return path
 
 
 class Library:
-    """rukvetta_nest, with memory to lend that has a pattern in it."""
+    """rukvetta_nest and rukvetta_write, with memory to lend that has a pattern in it."""
 
     def __init__(self, path: pathlib.Path) -> None:
-        self.nest = ctypes.CDLL(str(path)).rukvetta_nest
+        library = ctypes.CDLL(str(path))
+        self.write = library.rukvetta_write
+        self.write.restype = ctypes.c_uint32
+        self.write.argtypes = ctypes.c_void_p, ctypes.c_void_p, ctypes.c_size_t
+        self.bytes = (ctypes.c_uint8 * (8192 + 513))()
+        self.nest = library.rukvetta_nest
         self.nest.restype = ctypes.c_uint64
         self.nest.argtypes = ctypes.c_char_p, ctypes.c_size_t, ctypes.c_void_p, ctypes.c_void_p, ctypes.c_size_t
         self.state = (ctypes.c_uint16 * STATE)()
@@ -103,3 +111,21 @@ class Library:
             first, last = (2 * INDEX.start, 2 * INDEX.stop) if front else (len(front), len(front))
             return state[len(front) : first] == self.state_was[len(front) : first] and state[last:] == self.state_was[last:]
         return True
+
+    def written(self, lent: int) -> tuple[int, bytes]:
+        """What is answered where the state's record is written back into so many lent bytes, and these with those behind them."""
+        ctypes.memset(self.bytes, MARK, len(self.bytes))
+        answer = self.write(ctypes.addressof(self.state), ctypes.addressof(self.bytes), lent)
+        return answer, bytes(self.bytes)
+
+    def written_back(self, store: bytes) -> bool:
+        """Whether the record in the state is written back as this store, all else as lent, and refused where a byte is missing."""
+        state, marks = bytes(self.state), bytes([MARK]) * len(self.bytes)
+        size = len(store)
+        whole = all(self.written(size + more) == (size, store + marks[size:]) for more in (0, 1, 511, 512))
+        return whole and self.written(size - 1) == (10 << 16, marks) and bytes(self.state) == state
+
+    def written_of(self, words: Sequence[int], lent: int) -> tuple[int, bytes]:
+        """The same of words that are put in front of the state."""
+        self.state[: len(words)] = list(words)
+        return self.written(lent)

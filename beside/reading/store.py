@@ -49,3 +49,14 @@ def blocks(words: Sequence[int]) -> bytes:
 def pack(words: Sequence[int]) -> bytes:
     """The store of a record's words (those after W)."""
     return blocks([len(words) + 1, *words])
+
+
+def write_back(state: Sequence[int], lent: int) -> bytes:
+    """The store of the record in front of a state's words, which so many lent bytes have to hold, or 4 or 10."""
+    used = state[0]
+    if not 1 <= used <= MOST * WORDS:
+        raise Refused(4)
+    store = blocks(state[:used])
+    if len(store) > lent:
+        raise Refused(10)
+    return store

@@ -10,7 +10,7 @@ from reading.nesting import Nesting
 from reading.record import BRANCH, CONST, IF, INPUT, INSTR, RETURN, SWITCH, UNREACHABLE, Inst, Record, Region, read, refer, show, words_of
 from reading.runs import NestedRun, graph_run, place_taken
 from reading.sheet import accepted, nest, printed, words
-from reading.store import BLOCK, Refused, blocks, pack, payload
+from reading.store import BLOCK, Refused, blocks, pack, payload, write_back
 
 ROOT = pathlib.Path(__file__).resolve().parents[2]
 LISTS = ROOT / "beside" / "lists"
@@ -50,6 +50,19 @@ class Stores(unittest.TestCase):
         store = pack(record)
         self.assertEqual(len(store), 3 * BLOCK)
         self.assertEqual(payload(store)[: len(record) + 1], [len(record) + 1, *record])
+
+    def test_written_back(self) -> None:
+        """As many blocks as W words need; 4 before 10; no word behind W."""
+        for used, blocks_needed in ((1, 1), (253, 1), (254, 2), (4048, 16)):
+            state = [used] + [7] * 4399
+            store = write_back(state, BLOCK * blocks_needed)
+            self.assertEqual(len(store), BLOCK * blocks_needed)
+            self.assertEqual(payload(store), state[:used] + [0] * (253 * blocks_needed - used))
+            with self.assertRaisesRegex(Refused, "refused 10 0"):
+                write_back(state, len(store) - 1)
+        for used in (0, 4049, 65535):
+            with self.assertRaisesRegex(Refused, "refused 4 0"):
+                write_back([used] + [0] * 4399, 0)
 
     def refusal(self, store: bytes) -> str:
         """The line of a refusal."""

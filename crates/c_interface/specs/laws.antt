@@ -1,2 +1,4 @@
 pub mod Exporting
+pub mod Counted
 pub mod ExportingNest
+pub mod ExportingWrite

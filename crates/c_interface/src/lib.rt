@@ -1,10 +1,11 @@
 // The public routines for C and Rust, under plain names. Each is lent the one nesting state, and lends its words on: no copy is made.
 ghost use mathlib.Core.Path.{_≡_};
 ghost use Prim.Native.Nat.{_<_};
-ghost use Rattle.c_interface.specs.Exported.{AcceptExported, NestExported};
+ghost use Rattle.c_interface.specs.Exported.{AcceptExported, NestExported, WriteExported};
 use accept::Accepted;
 use nester::SheetAnswer;
 use state_lent::NestState;
+use store::StoreWritten;
 use store::WORDS;
 
 fn wide(x: u16) -> u32
@@ -41,6 +42,17 @@ fn nest_in_words(bytes: &[u8], words: &mut [u16; WORDS], out: &mut [u32]) -> u64
     }
 }
 
+fn write_in_words(words: &mut [u16; WORDS], out: &mut [u8]) -> u32
+    ensures { λ a. ⌜ WriteExported (now (words .entry)) (now (words .exit)) (now (out .entry)) (now (out .exit)) a ⌝ }
+{
+    let answer = store::write_store(words, out);
+    match answer {
+        StoreWritten::Bytes(n) => wide(n),
+        StoreWritten::Refused(why) => wide(store::refusals::number(why)) * 65536
+            + wide(store::refusals::word(why)),
+    }
+}
+
 // 0 for a record, which then stands in the state's words; else the refusal's number, 1 to 8, times 65,536, and its word.
 #[no_mangle]
 pub extern "C" fn rukvetta_accept(bytes: &[u8], state: &mut NestState) -> u32
@@ -56,4 +68,13 @@ pub extern "C" fn rukvetta_nest(bytes: &[u8], state: &mut NestState, out: &mut [
         (now (bytes .entry)) (now (state .entry) .words) (now (state .exit) .words) (now (out .entry)) (now (out .exit)) a ⌝ }
 {
     nest_in_words(bytes, &mut state.words, out)
+}
+
+// How many bytes the store of the state's record has, which then stand in front of `out`; else the refusal's number, 4 or 10, times 65,536.
+// The state is as it was.
+#[no_mangle]
+pub extern "C" fn rukvetta_write(state: &mut NestState, out: &mut [u8]) -> u32
+    ensures { λ a. ⌜ WriteExported (now (state .entry) .words) (now (state .exit) .words) (now (out .entry)) (now (out .exit)) a ⌝ }
+{
+    write_in_words(&mut state.words, out)
 }

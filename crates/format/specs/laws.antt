@@ -1,4 +1,6 @@
 pub mod Stores
+pub mod Written
+pub mod WrittenBack
 pub mod Readers
 pub mod WellRead
 pub mod AcceptValid

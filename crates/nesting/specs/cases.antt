@@ -1,5 +1,6 @@
 pub mod CaseGraphs
 pub mod Cases
+pub mod WrittenCases
 pub mod Computes
 pub mod QuickPrint
 pub mod RunCases

@@ -1,2 +1,3 @@
 pub mod LendPart
 pub mod StateWords
+pub mod Answered

@@ -1,5 +1,6 @@
 pub mod Layout
 pub mod Refusals
 pub mod Loaded
+pub mod Writes
 pub mod Block
 pub mod laws

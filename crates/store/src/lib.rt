@@ -10,10 +10,13 @@ ghost use Rattle.meaning.specs.Lists.{tabulate};
 
 pub mod layout;
 pub mod refusals;
+pub mod write;
 
 pub use layout::WORDS;
 pub use layout::tells_length;
 pub use refusals::Refusal;
+pub use write::StoreWritten;
+pub use write::write_store;
 
 // W, the words that a store holds, or its refusal.
 pub enum Loaded {

@@ -46,6 +46,7 @@ pub type Answer<'a> = Result<Sheet<'a>, Refusal>;
 extern "C" {
     fn rukvetta_accept(bytes: *const u8, length: u64, words: *mut u16) -> u32;
     fn rukvetta_nest(bytes: *const u8, length: u64, words: *mut u16, out: *mut u32, lent: u64) -> u64;
+    fn rukvetta_write(words: *mut u16, bytes: *mut u8, lent: u64) -> u32;
 }
 
 /// The memory that nesting works in: 53,884 bytes for the words, and how many of them are a record.
@@ -63,6 +64,18 @@ impl State {
     /// The words of the record that the last call accepted, W in front; empty if it was refused with 1 to 8.
     pub fn record(&self) -> &[u16] {
         &self.words[..self.used]
+    }
+
+    /// Writes the record back as a store, in front of the lent bytes; those behind it are as lent. Refusals 4, where none stands, and 10,
+    /// where fewer than 512 bytes are lent for each block: then all bytes are as lent. What stands are the words of the last store that was
+    /// not refused with 1 to 3, or with 4 for W; reading may have refused them with 4 to 8.
+    pub fn write<'a>(&mut self, lent: &'a mut [u8]) -> Result<&'a [u8], Refusal> {
+        // SAFETY: as in `accept`; the lent bytes are a piece of memory beside the words.
+        let answer = unsafe { rukvetta_write(self.words.as_mut_ptr(), lent.as_mut_ptr(), lent.len() as u64) };
+        match answer >> 16 {
+            0 => Ok(&lent[..answer as usize]),
+            number => Err(Refusal::from_words(number, answer & 0xffff)),
+        }
     }
 
     fn stands(&mut self, accepted: bool) {

@@ -2,7 +2,7 @@
 use core::error::Error;
 use core::fmt;
 
-/// Why a store has no sheet. A number in a variant is the block or the region.
+/// Why a store has no sheet, or no store can be written. A number in a variant is the block or the region.
 #[derive(Clone, Copy, Debug, PartialEq, Eq)]
 pub enum Refusal {
     /// 1: the store's length is 0, over 8,192 or no multiple of 512.
@@ -11,7 +11,7 @@ pub enum Refusal {
     BlockNumber(u16),
     /// 3: this block's check is wrong.
     Check(u16),
-    /// 4: the record's words are not as many as word 0 or the blocks say.
+    /// 4: the record's words are not as many as word 0 or the blocks say; in writing, that no record stands.
     WordCount,
     /// 5: a count, type, kind or limit is out of range in this region, or before the first.
     Range(u16),
@@ -23,7 +23,7 @@ pub enum Refusal {
     ExitTwice(u16),
     /// 9: nesting would define more than 128 regions, or 512 nodes, outputs or conditions.
     Limit,
-    /// 10: the sheet has more words than were lent.
+    /// 10: the sheet has more words, or the store more bytes, than were lent.
     Lent,
     /// 11: the figure exceeds 4,294,967,295.
     Figure,
@@ -88,7 +88,7 @@ impl fmt::Display for Refusal {
             Refusal::Type(region) => write!(to, "region {region} has a value of another type, or another number of values"),
             Refusal::ExitTwice(region) => write!(to, "the exit list of region {region} names a region twice"),
             Refusal::Limit => write!(to, "nesting would define too many regions, outputs or conditions"),
-            Refusal::Lent => write!(to, "the sheet has more words than were lent"),
+            Refusal::Lent => write!(to, "there is more to write than was lent"),
             Refusal::Figure => write!(to, "the figure exceeds 4,294,967,295"),
         }
     }

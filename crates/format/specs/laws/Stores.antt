@@ -1,6 +1,6 @@
 -- A store by its tests: the zero words, the checks and the blocks one more at a time; each path through the whole; what an accepted
 -- store is; the words of a store of bytes.
-use mathlib.Core.Path.{_≡_, refl, sym, ap, _∙_}
+use mathlib.Core.Path.{_≡_, refl, sym, ap, _∙_, subst}
 use mathlib.Core.Bool.{Bool, true, false, _&&_}
 use mathlib.Core.List.{List}
 use mathlib.Core.Logic.{⊎-elim}
@@ -9,14 +9,14 @@ use native.Mathlib.Numerals.{add-one}
 use native.Mathlib.Omega.{arith}
 use native.Mathlib.Nat.{mul-le-mul, not-suc-le-zero, eq-or-lt-of-le, le-of-suc-le-suc}
 use lib.ListN.{length, getD}
-use lib.Dec.{eqb, ltb}
+use lib.Dec.{eqb, leb, ltb}
 use borrow.Author.Tests.{eq-eqb, ne-eqb, lt-ltb, le-leb, lt-leb, leb-true, ltb-true, eqb-true}
 use Rattle.meaning.specs.Lists.{tabulate, All}
 use Rattle.meaning.specs.facts.Tests.{clash, and-both}
 use Rattle.meaning.specs.facts.Elements.{length-tabulate, all-tabulate}
-use Rattle.format.specs.Store.{Answer, accepted, refused, if-accepted, pair, weighted, blocks-checked, word-at, all-zero}
-use Rattle.format.specs.Store.{length-right, count-right, store-words}
-use Rattle.format.specs.Refusals.{wrong-length, wrong-word-count}
+use Rattle.format.specs.Store.{Answer, accepted, refused, if-accepted, pair, weighted, number-right, check-right, blocks-checked}
+use Rattle.format.specs.Store.{word-at, all-zero, length-right, blocks-for, count-right, store-words}
+use Rattle.format.specs.Refusals.{wrong-length, wrong-block-number, wrong-check, wrong-word-count}
 
 -- ---- the words behind W
 pub zero-more : (s : List ℕ) (j n : ℕ) → all-zero s j n ≡ true → word-at s (j + n) ≡ 0 → all-zero s j (n + 1) ≡ true
@@ -31,6 +31,16 @@ zero-stays s j n (suc m) e z l =
     ⊎-elim
     (λ q. rw (← q, e, ne-eqb (word-at s (j + n)) 0 z) refl)
     (λ q. rw (zero-stays s j n m e z q) refl)
+    (eq-or-lt-of-le (le-of-suc-le-suc l))
+
+pub zero-each : (s : List ℕ) (j n k : ℕ) → all-zero s j n ≡ true → k < n → word-at s (j + k) ≡ 0
+unfolding all-zero
+zero-each s j zero k e l = absurd (not-suc-le-zero l)
+zero-each s j (suc n) k e l =
+    let h = and-both (all-zero s j n) (eqb (word-at s (j + n)) 0) e in
+    ⊎-elim
+    (λ q. ap (λ i. word-at s (j + i)) q ∙ eqb-true (word-at s (j + n)) 0 (h .1))
+    (λ q. zero-each s j n k (h .0) q)
     (eq-or-lt-of-le (le-of-suc-le-suc l))
 
 module _ (s : List ℕ) (n w : ℕ) where
@@ -59,6 +69,32 @@ blocks-stay s zero zero a b l e = e
 blocks-stay s (suc m) zero a b l e = absurd (not-suc-le-zero l)
 blocks-stay s m (suc n) a b l e =
     ⊎-elim (λ q. ap (blocks-checked s) (sym q) ∙ e) (λ q. rw (blocks-stay s m n a b (le-of-suc-le-suc q) e) refl) (eq-or-lt-of-le l)
+
+-- Block n by its two tests.
+abbrev block-judged : ℕ → Bool → Bool → Answer Unit
+block-judged n number check =
+    elim number [
+      | false ↦ refused wrong-block-number n
+      | true ↦ elim check [ false ↦ refused wrong-check n | true ↦ accepted tt ]
+    ]
+
+block-passed : (n : ℕ) (a : Answer Unit) (p q : Bool) → if-accepted a (λ _. block-judged n p q) ≡ accepted tt
+    → (a ≡ accepted tt) × (p ≡ true) × (q ≡ true)
+block-passed n (refused m w) p q e = absurd (clash (cc))
+block-passed n (accepted u) false q e = absurd (clash (cc))
+block-passed n (accepted u) true false e = absurd (clash (cc))
+block-passed n (accepted tt) true true e = (refl, refl, refl)
+
+-- Among blocks that are right each is.
+pub block-right : (s : List ℕ) (n b : ℕ) → blocks-checked s n ≡ accepted tt → b < n → (number-right s b ≡ true) × (check-right s b ≡ true)
+unfolding blocks-checked
+block-right s zero b e l = absurd (not-suc-le-zero l)
+block-right s (suc n) b e l =
+    let h = block-passed n (blocks-checked s n) (number-right s n) (check-right s n) e in
+    ⊎-elim
+    (λ q. subst (λ k. (number-right s k ≡ true) × (check-right s k ≡ true)) (sym q) (h .1, h .2))
+    (λ q. block-right s n b (h .0) q)
+    (eq-or-lt-of-le (le-of-suc-le-suc l))
 
 -- ---- the whole
 -- The answer by the length's test, the blocks' verdict and W's test.
@@ -92,6 +128,42 @@ stored s l w b p q r =
     ∙ ap (λ x. judged s l x (count-right s (blocks-in s) (word-at s 0))) q
     ∙ ap (judged s l b) r
 
+-- The tests that an accepted store has passed: of its length, of its blocks, of W and of the words behind W.
+pub record StoreTested (s ws : List ℕ) : Type 0 where
+  pub short : length s ≤ 8192
+  pub whole : length s ≡ 512 * blocks-in s
+  pub blocks : blocks-checked s (blocks-in s) ≡ accepted tt
+  pub some : 0 < word-at s 0
+  pub needed : blocks-in s ≡ blocks-for (word-at s 0)
+  pub zeros : all-zero s (word-at s 0) (253 * blocks-in s - word-at s 0) ≡ true
+  pub words : tabulate (word-at s 0) (word-at s) ≡ ws
+
+module _ (s ws : List ℕ) where
+  tested-by : (l t : Bool) (b : Answer Unit) → length-right (length s) ≡ l → blocks-checked s (blocks-in s) ≡ b
+      → count-right s (blocks-in s) (word-at s 0) ≡ t → judged s l b t ≡ accepted ws → StoreTested s ws
+  tested-by false t b p q r e = absurd (clash (cc))
+  tested-by true t (refused m n) p q r e = absurd (clash (cc))
+  tested-by true false (accepted u) p q r e = absurd (clash (cc))
+  tested-by true true (accepted tt) p q r e =
+      let n = length s in
+      let w = word-at s 0 in
+      let long = and-both (leb n 8192) (eqb (n % 512) 0) (and-both (ltb 0 n) _ p .1) in
+      let part : n % 512 ≡ 0 = eqb-true (n % 512) 0 (long .1) in
+      let first = and-both (ltb 0 w) _ r in
+      let count = and-both (eqb (blocks-in s) (blocks-for w)) (all-zero s w (253 * blocks-in s - w)) (first .1) in
+      record {
+        short = leb-true n 8192 (long .0);
+        whole = omega arith;
+        blocks = q;
+        some = ltb-true 0 w (first .0);
+        needed = eqb-true (blocks-in s) (blocks-for w) (count .0);
+        zeros = count .1;
+        words = cc;
+      }
+
+  pub tested : store-words s ≡ accepted ws → StoreTested s ws
+  tested e = tested-by _ _ (blocks-checked s (blocks-in s)) refl refl refl (sym (stored s _ _ _ refl refl refl) ∙ e)
+
 -- What an accepted store is: its words are the first w, and they lie within its blocks.
 pub record StoreHolds (s : List ℕ) (w : ℕ) : Type 0 where
   pub words : store-words s ≡ accepted (tabulate w (word-at s))
@@ -100,38 +172,17 @@ pub record StoreHolds (s : List ℕ) (w : ℕ) : Type 0 where
   pub first : word-at s 0 ≡ w
   pub some : 0 < w
 
-short-enough : (n : ℕ) → length-right n ≡ true → n ≤ 8192
-short-enough n e = leb-true n 8192 (and-both _ _ (and-both (ltb 0 n) _ e .1) .0)
-
-few-enough : (s : List ℕ) (n w : ℕ) → count-right s n w ≡ true → w ≤ 253 * n
-few-enough s n w e =
-    let q : n ≡ (w + 252) / 253 = eqb-true n ((w + 252) / 253) (and-both _ (all-zero s w (253 * n - w)) (and-both (ltb 0 w) _ e .1) .0) in
-    omega arith
-
-some-words : (s : List ℕ) (n w : ℕ) → count-right s n w ≡ true → 0 < w
-some-words s n w e = ltb-true 0 w (and-both _ _ e .0)
-
-module _ (s ws : List ℕ) where
-  holds-by : (l t : Bool) (b : Answer Unit) → length-right (length s) ≡ l → count-right s (blocks-in s) (word-at s 0) ≡ t
-      → store-words s ≡ judged s l b t → judged s l b t ≡ accepted ws → StoreHolds s (length ws)
-  holds-by false t b p q r e = absurd (clash (cc))
-  holds-by true t (refused m n) p q r e = absurd (clash (cc))
-  holds-by true false (accepted u) p q r e = absurd (clash (cc))
-  holds-by true true (accepted u) p q r e =
-      let is : tabulate (word-at s 0) (word-at s) ≡ ws = cc in
-      let k : length ws ≡ word-at s 0 = ap length (sym is) ∙ length-tabulate (word-at s 0) (word-at s) in
-      record {
-        words = r ∙ ap (λ n. accepted (tabulate n (word-at s))) (sym k);
-        short = short-enough (length s) p;
-        within = rw k (few-enough s (blocks-in s) (word-at s 0) q);
-        first = sym k;
-        some = rw k (some-words s (blocks-in s) (word-at s 0) q);
-      }
-
-  pub holds : store-words s ≡ accepted ws → StoreHolds s (length ws)
-  holds e =
-      let r = stored s _ _ _ refl refl refl in
-      holds-by _ _ (blocks-checked s (blocks-in s)) refl refl r (sym r ∙ e)
+pub holds : (s ws : List ℕ) → store-words s ≡ accepted ws → StoreHolds s (length ws)
+holds s ws e =
+    let t = tested s ws e in
+    let k : length ws ≡ word-at s 0 = ap length (sym (t .words)) ∙ length-tabulate (word-at s 0) (word-at s) in
+    record {
+      words = e ∙ ap accepted (sym (t .words)) ∙ ap (λ n. accepted (tabulate n (word-at s))) (sym k);
+      short = t .short;
+      within = omega (arith, t .needed);
+      first = sym k;
+      some = omega (arith, t .some);
+    }
 
 -- ---- the words of a store of bytes
 abbrev pub AllBytes : List ℕ → Type 0

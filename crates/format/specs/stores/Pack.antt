@@ -1,13 +1,14 @@
--- A store made of a graph: the record's words, W in front, padded to blocks, each with its number and its check.
+-- A store made of a graph: the record's words, W in front, as blocks.
 use mathlib.Core.Bool.{true, false}
 use mathlib.Core.List.{List, [], _∷_, _++_, map}
-use Prim.Native.Nat.{ℕ, zero, suc, _+_, _*_, _/_, _%_}
-use lib.ListN.{length, drop}
+use Prim.Native.Nat.{ℕ, suc}
+use lib.ListN.{length}
 use Rattle.meaning.specs.Graph.{Value, Code, code-of, Instr, bool-cond, number, Edge, ControlInst, unreachable, return, exit-invocation}
 use Rattle.meaning.specs.Graph.{branch, select-branch, Region, Graph, edges-of}
 use Rattle.meaning.specs.Lists.{is-in, concat}
 use Rattle.format.specs.Read.{terminator-unreachable, terminator-return, terminator-exit, terminator-branch, terminator-bool}
 use Rattle.format.specs.Read.{terminator-number}
+use Rattle.format.specs.Store.{store-of}
 
 -- ---- the record's words
 -- A list its count, then its items.
@@ -61,36 +62,7 @@ words-of-graph g =
     length (g .regions) ∷ g .entry ∷ g .test-cost ∷ (numbers-words (g .constants) ++ concat (map region-words (g .regions)))
 
 -- ---- the store's bytes
--- A word as two bytes, little-endian.
-abbrev pub two-bytes : ℕ → List ℕ
-two-bytes w = w % 256 ∷ w / 256 ∷ []
-
--- The bytes of n words, zeros once the words have run out.
-unfoldable pub payload : ℕ → List ℕ → List ℕ
-payload zero ws = []
-payload (suc n) [] = 0 ∷ 0 ∷ payload n []
-payload (suc n) (w ∷ ws) = two-bytes w ++ payload n ws
-
--- The sum of byte times (place + 1), from a place on.
-unfoldable pub check-from : ℕ → List ℕ → ℕ
-check-from at [] = 0
-check-from at (b ∷ bs) = b * suc at + check-from (suc at) bs
-
-unfoldable pub checked : List ℕ → List ℕ
-unfolding check-from
-checked bs = let c = check-from 0 bs in bs ++ two-bytes (c % 65536) ++ two-bytes (c / 65536)
-
--- n blocks from block b on.
-unfoldable pub blocks-of-words : ℕ → ℕ → List ℕ → List ℕ
-unfolding checked payload
-blocks-of-words b zero ws = []
-blocks-of-words b (suc n) ws = checked (two-bytes b ++ payload 253 ws) ++ blocks-of-words (suc b) n (drop 253 ws)
-
--- The record's words are without W.
-unfoldable pub store-of : List ℕ → List ℕ
-unfolding blocks-of-words
-store-of ws = let w = suc (length ws) in blocks-of-words 0 ((w + 252) / 253) (w ∷ ws)
-
+-- W, the words with itself, stands in front of them.
 unfoldable pub store-of-graph : Graph → List ℕ
 unfolding store-of words-of-graph
-store-of-graph g = store-of (words-of-graph g)
+store-of-graph g = let ws = words-of-graph g in store-of (suc (length ws) ∷ ws)

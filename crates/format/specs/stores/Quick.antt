@@ -5,38 +5,23 @@ use mathlib.Core.Bool.{Bool, true, false, _&&_, and-true, and-assoc}
 use mathlib.Core.List.{List, [], _∷_, _++_}
 use Prim.Native.Nat.{ℕ, zero, suc, _+_, _-_, _*_, _/_, _%_, _≤_, _<_}
 use native.Mathlib.Omega.{arith}
-use native.Mathlib.Nat.{add-assoc, not-suc-le-zero}
+use native.Mathlib.Nat.{not-suc-le-zero}
 use native.Mathlib.Decide.{decLe, decLt}
 use lib.ListN.{drop-of-length-le, length, getD, take, drop, length-append, length-drop, List·getD-append}
 use lib.Seq.{getD-drop, getD-take, getD-append-add, take-all, take-suc, ext-getD, length-take-le}
 use lib.Dec.{eqb, ltb}
 use borrow.Author.Tests.{eqb-true}
 use Rattle.format.specs.Store.{Answer, accepted, refused, if-accepted, pair, weighted, number-right, blocks-checked, word-at}
-use Rattle.format.specs.Store.{all-zero, length-right, count-right, store-words}
+use Rattle.format.specs.Store.{all-zero, length-right, count-right, store-words, check-from}
 use Rattle.format.specs.Read.{read-record}
 use Rattle.format.specs.References.{references}
 use Rattle.format.specs.Accept.{with-references, accept}
 use Rattle.meaning.specs.Graph.{Graph}
-use Rattle.format.specs.stores.Pack.{check-from}
+use Rattle.format.specs.laws.Written.{pair-drop, weighted-walk}
 use Rattle.format.specs.stores.QuickRead.{quick-read-record, same-read-record}
 use Rattle.format.specs.Refusals.{wrong-length, wrong-block-number, wrong-check, wrong-word-count}
 use Rattle.meaning.specs.Lists.{tabulate}
 use Rattle.meaning.specs.facts.Elements.{length-tabulate, tabulate-at}
-
--- ---- the check of a block
-check-snoc : (k : ℕ) (xs : List ℕ) (y : ℕ) → check-from k (xs ++ (y ∷ [])) ≡ check-from k xs + y * suc (k + length xs)
-unfolding check-from
-check-snoc k [] y = omega arith
-check-snoc k (x ∷ xs) y = rw (check-snoc (suc k) xs y) (omega arith)
-
-weighted-walk : (s : List ℕ) (at n : ℕ) → at + n ≤ length s → weighted s at n ≡ check-from 0 (take n (drop at s))
-unfolding weighted check-from
-weighted-walk s at zero h = refl
-weighted-walk s at (suc n) h =
-    let i : weighted s at n ≡ check-from 0 (take n (drop at s)) = weighted-walk s at n (omega arith) in
-    let l : n < length (drop at s) = simp length-drop (omega arith) in
-    let k : length (take n (drop at s)) ≡ n = length-take-le n (drop at s) (omega arith) in
-    rw (take-suc (drop at s) n 0 l, check-snoc 0 (take n (drop at s)) (getD (drop at s) n 0), k, getD-drop at s n 0, i) (omega arith)
 
 -- ---- the words
 -- n words from the front of the bytes
@@ -63,9 +48,6 @@ length-all-words (suc n) s =
       length-front-words 253 (drop 2 s),
       length-all-words n (drop 512 s),
     ) (omega arith)
-
-pair-drop : (n : ℕ) (s : List ℕ) (at : ℕ) → pair (drop n s) at ≡ pair s (n + at)
-pair-drop n s at = rw (getD-drop n s at 0, getD-drop n s (at + 1) 0, ← add-assoc n at 1)
 
 front-word : (n : ℕ) (s : List ℕ) (j : ℕ) → j < n → getD (front-words n s) j 0 ≡ pair s (2 * j)
 unfolding front-words
@@ -180,7 +162,7 @@ words-if right ws = elim right [ false ↦ refused wrong-word-count 0 | true ↦
 abbrev pub quick-count : ℕ → List ℕ → ℕ → Answer (List ℕ)
 quick-count n ws w = words-if (ltb 0 w && (eqb n ((w + 252) / 253) && only-zeros (drop w ws))) (take w ws)
 
-unfoldable quick-store-words : List ℕ → Answer (List ℕ)
+unfoldable pub quick-store-words : List ℕ → Answer (List ℕ)
 unfolding quick-blocks check-from all-words front-words only-zeros
 quick-store-words s =
     elim (length-right (length s)) [
@@ -222,7 +204,7 @@ same-answer s true =
     (same-blocks s (length s / 512) (omega arith))
     ∙ ap (λ a. if-accepted (quick-blocks s (length s / 512)) λ _. a) (same-count s (length s / 512) (word-at s 0))
 
-same-store-words : (s : List ℕ) → store-words s ≡ quick-store-words s
+pub same-store-words : (s : List ℕ) → store-words s ≡ quick-store-words s
 unfolding store-words quick-store-words
 same-store-words s = same-answer s (length-right (length s))
 
