@@ -10,6 +10,7 @@ extern const uint8_t list[];
 typedef uint32_t cell;
 extern cell stack_foot[];
 #define STACK_POINTER "mov %0, sp"
+enum { RED_ZONE = 0 };
 
 static inline void host(unsigned what, const void *with) {
     register unsigned r0 __asm__("r0") = what;
@@ -38,6 +39,7 @@ static uint8_t list[1 << 25];
 typedef uint64_t cell;
 static cell *stack_foot;
 #define STACK_POINTER "mov %%rsp, %0"
+enum { RED_ZONE = 16 }; // cells below the pointer that a function may use
 
 static inline void put(const char *text) { fputs(text, stdout); }
 static inline void begin(void) {
@@ -55,7 +57,8 @@ static inline uint32_t instructions_since(uint32_t began) { return began; }
     do {                                                                     \
         cell *sp, *p;                                                        \
         __asm__ volatile(STACK_POINTER : "=r"(sp));                          \
-        for (p = stack_foot; p < sp - 32; p++) *(volatile cell *)p = PAINT;  \
+        for (p = stack_foot; p < sp - RED_ZONE; p++)                         \
+            *(volatile cell *)p = PAINT;                                     \
         call;                                                                \
         for (p = stack_foot; p < sp && *(volatile cell *)p == PAINT;) p++;   \
         bytes = sizeof(cell) * (sp - p);                                     \
