@@ -1,9 +1,10 @@
 /*
  * Rukvetta 1.0: from a store of bytes to its nested sheet.
  *
- * Three routines, each proved to answer as its definition does, whatever it is
- * lent: two for a store of bytes, one that writes a record back as a store. "Document 01" is the scope paper of the routine nester: it fixes store,
- * record, refusals and sheet. docs/REFUSALS.md says what to do about a refusal.
+ * Three routines, each proved to answer as its definition does, whatever it is lent:
+ * two for a store of bytes, and one that writes a record back as a store. "Document
+ * 01" is the scope paper of the routine nester: it fixes store, record, refusals and
+ * sheet. docs/REFUSALS.md says what to do about a refusal.
  *
  * Memory. A routine uses what it is lent, and a stack that is bounded below. It takes
  * no heap, keeps nothing between calls, and has no memory of its own: calls with
