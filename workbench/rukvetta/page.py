@@ -6,14 +6,33 @@ import functools
 import html
 import json
 import os
-from typing import Any
+from dataclasses import asdict, dataclass
 from urllib.parse import quote
 
+from .facts import clock_text
 from .needs import need_dagre
 
 FOLDER = os.path.normpath(os.path.join(os.path.dirname(os.path.abspath(__file__)), "..", "page"))
 PARTS = "texts.js", "inputs.js", "costs.js", "svg.js", "view.js", "graph.js", "form.js", "nest.js", "leftover.js", "page.js"
 LAYOUT_NOTICE = "dagre, Copyright 2012-2014 Chris Pettitt, under the Expat licence, which the page repeats at its end."
+
+
+@dataclass(frozen=True)
+class RoutineTexts:
+    """What a page is drawn from: what `show` and `nest` print, the source's names, a refusal's explanation. Each may be empty."""
+
+    record: str
+    sheet: str
+    names: str = ""
+    explained: str = ""
+
+
+@dataclass(frozen=True)
+class RoutineOptions:
+    """What a page says besides: times by a clock in hertz, and the number of the record's words. None is not told."""
+
+    clock: float | None = None
+    words: int | None = None
 
 
 def text_of(name: str) -> str:
@@ -40,16 +59,19 @@ def kept(name: str, text: str) -> str:
     return f'<pre hidden id="text-{name}">\n{html.escape(text, quote=False)}</pre>\n'
 
 
-def routine_page(title: str, texts: dict[str, str], options: dict[str, Any]) -> str:
-    """The page of a routine. `texts` has record, sheet, names and explained, each a text or empty."""
-    given = json.dumps({"title": title, **options}).replace("<", "\\u003c")
-    wanted = json.dumps(sorted(texts))
+def routine_page(title: str, texts: RoutineTexts, options: RoutineOptions) -> str:
+    """The page of a routine."""
+    clock = options.clock
+    shown = {"title": title, "clock": clock, "clockText": clock_text(clock) if clock else None, "words": options.words}
+    given = json.dumps(shown).replace("<", "\\u003c")
+    named = asdict(texts)
+    wanted = json.dumps(sorted(named))
     start = (
         f"const texts = {{}};\nfor (const name of {wanted}) "
         "texts[name] = document.getElementById('text-' + name).textContent.trim();\n"
         f"drawRoutine(document.querySelector('main'), texts, {given});\n"
     )
-    scripts = "".join(kept(name, text) for name, text in texts.items())
+    scripts = "".join(kept(name, text) for name, text in named.items())
     scripts += f"<script>\n{script()}{start}</script>\n<!--\n{text_of('dagre-licence.txt')}-->\n"
     return filled(title, "", scripts)
 

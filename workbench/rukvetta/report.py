@@ -10,10 +10,10 @@ from dataclasses import dataclass
 
 from .answers import Answer, Output
 from .explain import Differs, named, refused_text
-from .facts import Facts, add_clock, clock_text, facts_of, heads
+from .facts import Facts, add_clock, facts_of, heads
 from .faults import escaped
 from .needs import REFUSED, USAGE, Parser, need_dagre
-from .page import index_page, routine_page
+from .page import RoutineOptions, RoutineTexts, index_page, routine_page
 from .programs import BUILT_BY, Programs, add_option, refusal
 from .progress import tracked
 from .routine import BadSource, Routine, name_of, routine_of
@@ -22,26 +22,23 @@ from .streams import read_file, replace_file
 DESCRIPTION = "Draws the graph and the nest of stores, or of sources that it assembles first, in self-contained pages."
 
 
-def routine_texts(routine: Routine, programs: Programs) -> tuple[str, dict[str, str]]:
-    """What a page is drawn from: what the programs print, the source's names, and a refusal's explanation."""
+def routine_texts(routine: Routine, programs: Programs) -> tuple[str, RoutineTexts]:
+    """What `show` prints, and what a page is drawn from."""
     shown, sheet = programs.show(routine.store), programs.nest(routine.store)
-    texts = {
-        "record": "" if refusal(shown) else shown,
-        "sheet": sheet,
-        "names": "\n".join(routine.names.lines()) if routine.names else "",
-        "explained": "",
-    }
-    if refusal(sheet):
-        texts["explained"] = "\n".join(named(routine, text) for text in refused_text(routine, sheet, programs)[1:])
-    return shown, texts
+    explained = refused_text(routine, sheet, programs)[1:] if refusal(sheet) else []
+    return shown, RoutineTexts(
+        record="" if refusal(shown) else shown,
+        sheet=sheet,
+        names="\n".join(routine.names.lines()) if routine.names else "",
+        explained="\n".join(named(routine, text) for text in explained),
+    )
 
 
 def draw(routine: Routine, programs: Programs, clock: float | None) -> tuple[str, Facts]:
     """A routine's page, and its facts for an index."""
     shown, texts = routine_texts(routine, programs)
-    facts = facts_of(routine.name, routine.store, shown, texts["sheet"])
-    options = {"clock": clock, "clockText": clock_text(clock) if clock else None, "words": facts.words}
-    return routine_page(routine.name, texts, options), facts
+    facts = facts_of(routine.name, routine.store, shown, texts.sheet)
+    return routine_page(routine.name, texts, RoutineOptions(clock, facts.words)), facts
 
 
 def page_names(paths: Iterable[str]) -> Iterator[str]:

@@ -10,7 +10,7 @@ from .support import WORKBENCH
 from .test_report import catalogue_texts
 
 from rukvetta.needs import MISSING, USAGE
-from rukvetta.page import routine_page
+from rukvetta.page import RoutineOptions, routine_page
 from rukvetta.record import record_words
 from rukvetta.routine import load
 
@@ -38,7 +38,7 @@ def main() -> None:
             path = os.path.join(folder, name + ".html")
             words = record_words(load(os.path.join(WORKBENCH, "catalogue", name + ".routine")).record)[0]
             with open(path, "w", encoding="utf-8") as file:
-                file.write(routine_page(name, catalogue_texts(name), {"clock": 1e6, "clockText": "1 MHz", "words": words}))
+                file.write(routine_page(name, catalogue_texts(name), RoutineOptions(1e6, words)))
             look.open(path, dark)
             below = look.run("return document.querySelector('.listings').getBoundingClientRect().top")
             look.screenshot(os.path.join(WORKBENCH, "docs", f"{name}-{'dark' if dark else 'light'}.png"), below - 4)

@@ -4,6 +4,7 @@ import os
 import random
 import tempfile
 import unittest
+from dataclasses import replace
 
 from . import browser
 from .random_records import random_record
@@ -11,7 +12,7 @@ from .support import command, needs_nest, needs_show, programs, put
 from .test_report import catalogue_texts, needs_browser
 
 from rukvetta.assemble import assemble
-from rukvetta.page import routine_page
+from rukvetta.page import RoutineOptions, RoutineTexts, routine_page
 from rukvetta.record import record_words
 from rukvetta.store import store_of
 
@@ -68,12 +69,12 @@ STRUCK_LABELS = """
 """
 
 
-def program_texts(store: bytes, names: str = "") -> dict[str, str]:
+def program_texts(store: bytes, names: str = "") -> RoutineTexts:
     """What a page of a store is drawn from."""
-    return {"record": programs.show(store), "sheet": programs.nest(store), "names": names, "explained": ""}
+    return RoutineTexts(programs.show(store), programs.nest(store), names)
 
 
-def source_texts(source: bytes) -> dict[str, str]:
+def source_texts(source: bytes) -> RoutineTexts:
     store, _, names = assemble(source)
     return program_texts(store, "\n".join(names.lines()))
 
@@ -93,7 +94,7 @@ def store_of_32() -> bytes:
 @needs_nest
 @needs_browser
 class Page(browser.InBrowser):
-    def open(self, texts: dict[str, str], **options: object) -> None:
+    def open(self, texts: RoutineTexts, options: RoutineOptions = RoutineOptions()) -> None:
         path = os.path.join(self.folder.name, "page.html")
         put(path, routine_page("page", texts, options).encode())
         self.assertEqual([], self.browser.open(path))
@@ -126,7 +127,7 @@ class Page(browser.InBrowser):
         )
 
     def test_a_store_without_names(self) -> None:
-        self.open({**catalogue_texts("ramp-nested"), "names": ""})
+        self.open(replace(catalogue_texts("ramp-nested"), names=""))
         nest = self.browser.texts("svg.nest text")
         self.assertIn("i2.1 = c3", nest)
         self.assertFalse([text for text in nest if "i2.0" in text])
@@ -139,10 +140,10 @@ class Page(browser.InBrowser):
             "region 2 in - limit 1\nreturn -\nexits -\n"
         )
         sheet = programs.nest(assemble(record.encode())[0])
-        self.open({"record": record, "sheet": sheet, "names": "", "explained": ""})
+        self.open(RoutineTexts(record, sheet))
         self.assertIn("i1.1 = c0", self.browser.texts("svg.nest text"))
         unclear = record.replace("pass 1 in i1.0,c0", "pass 1 in c0,c0")  # another record than the sheet's
-        self.open({"record": unclear, "sheet": sheet, "names": "", "explained": ""})
+        self.open(RoutineTexts(unclear, sheet))
         self.assertIn("loop1.0 = c0", self.browser.texts("svg.nest text"))
 
     # The dearest path.
@@ -189,7 +190,7 @@ class Page(browser.InBrowser):
 
     def test_times_stand_beside_their_clock(self) -> None:
         texts = catalogue_texts("case-a")
-        self.open(texts, clock=1e7, clockText="10 MHz")
+        self.open(texts, RoutineOptions(clock=1e7))
         self.assertEqual(self.browser.texts("[data-fact=figure] dd"), ["11 = 1.1 µs at 10 MHz"])
         self.open(texts)
         self.assertEqual(self.browser.texts("[data-fact=figure] dd"), ["11"])

@@ -4,11 +4,12 @@ import os
 import re
 import tempfile
 import unittest
+from dataclasses import replace
 
 from . import browser
 from .support import CATALOGUE, command, needs_nest, needs_show, programs, vectors
 
-from rukvetta.page import routine_page
+from rukvetta.page import RoutineOptions, RoutineTexts, routine_page
 from rukvetta.programs import refusal
 from rukvetta.routine import load
 
@@ -16,20 +17,20 @@ needs_browser = unittest.skipIf(browser.missing(), browser.missing())
 LEFTOVERS = "sweep-resume", "trigger-chase"
 
 
-def catalogue_texts(name: str) -> dict[str, str]:
+def catalogue_texts(name: str) -> RoutineTexts:
     """What a page of the catalogue is drawn from, with the sheet that is checked in in place of `nest`."""
     routine = load(os.path.join(CATALOGUE, name + ".routine"))
     with open(os.path.join(CATALOGUE, name + ".sheet"), encoding="ascii") as sheet:
-        return {"record": programs.show(routine.store), "sheet": sheet.read(), "names": "\n".join(routine.names.lines()), "explained": ""}
+        return RoutineTexts(programs.show(routine.store), sheet.read(), "\n".join(routine.names.lines()))
 
 
 @needs_show
 @needs_browser
 class Page(browser.InBrowser):
-    def open(self, name: str, texts: dict[str, str] | None = None, dark: bool = False) -> str:
+    def open(self, name: str, texts: RoutineTexts | None = None, dark: bool = False) -> str:
         path = os.path.join(self.folder.name, name + ".html")
         with open(path, "w", encoding="utf-8") as file:
-            file.write(routine_page(name, texts or catalogue_texts(name), {"clock": 1e6, "clockText": "1 MHz", "words": 71}))
+            file.write(routine_page(name, texts or catalogue_texts(name), RoutineOptions(clock=1e6, words=71)))
         self.assertEqual([], self.browser.open(path, dark))
         return path
 
@@ -123,7 +124,7 @@ class Page(browser.InBrowser):
     def test_a_leftover_shows_its_branches(self) -> None:
         for name in LEFTOVERS:
             self.open(name)
-            sheet = catalogue_texts(name)["sheet"]
+            sheet = catalogue_texts(name).sheet
             self.assertEqual(self.browser.count("[id^=nest-defer-]"), sheet.count("\ndefer "))
             self.assertEqual(self.browser.count(".stripe"), 0)
         texts = self.browser.texts("[id^=nest-defer-] text")
@@ -133,10 +134,10 @@ class Page(browser.InBrowser):
     def test_untouched_and_refused(self) -> None:
         self.open("monitor")
         self.assertEqual((self.browser.count("svg.graph"), self.browser.count("svg.nest")), (1, 0))
-        texts = {**catalogue_texts("calibration"), "explained": "Too dear.\nAnd <b>why</b>"}
+        texts = replace(catalogue_texts("calibration"), explained="Too dear.\nAnd <b>why</b>")
         self.open("calibration", texts)
         self.assertEqual(self.browser.texts(".badge, .explained"), ["refused 11 0", "Too dear.\nAnd <b>why</b>"])
-        self.open("bad", {"record": "", "sheet": "refused 1 0\n", "names": "", "explained": "Empty."})
+        self.open("bad", RoutineTexts(record="", sheet="refused 1 0\n", explained="Empty."))
         self.assertEqual(self.browser.count("svg"), 0)
 
     def test_pointing_and_links(self) -> None:
@@ -148,7 +149,7 @@ class Page(browser.InBrowser):
 
     def test_where_the_figure_is_another_no_path_is_marked(self) -> None:
         texts = catalogue_texts("case-a")
-        self.open("case-a", {**texts, "sheet": texts["sheet"].replace("figure 11", "figure 12")})
+        self.open("case-a", replace(texts, sheet=texts.sheet.replace("figure 11", "figure 12")))
         self.assertEqual(self.browser.count(".legend.wrong"), 1)
         self.assertEqual(self.browser.count(".stripe, .dear, text.share"), 0)
 
@@ -179,7 +180,7 @@ class Page(browser.InBrowser):
                 self.linked()
                 self.assertEqual(self.browser.count(".legend.wrong"), 0)
                 sheet = self.browser.texts("[id^=line-]")
-                self.assertEqual("\n".join(sheet) + "\n", catalogue_texts(name)["sheet"])
+                self.assertEqual("\n".join(sheet) + "\n", catalogue_texts(name).sheet)
                 self.assertEqual(self.browser.printed()[1], 1)
 
     def test_the_lists(self) -> None:
