@@ -12,6 +12,7 @@ from pathlib import Path
 
 from . import stepped
 from .definitions import Definitions
+from .edits import all_edits
 
 FORMAT, PLAYER, README = "docs/FORMAT.md", "docs/PLAYER.md", "README.md"
 CLOSED = FORMAT, PLAYER
@@ -127,7 +128,11 @@ CLAIMS: dict[str, tuple[str, ...]] = {
         "Opcode {example.key} answers {run.false} as long as the key is up.",
         "Up to step {example.first-turn} all is as above.",
     ),
-    README: ("`nest` stands on {crates.nest} of all {crates.all} crates", "wc -l) of {crates.nest} crates"),
+    README: (
+        "`nest` stands on {crates.nest} of all {crates.all} crates",
+        "wc -l) of {crates.nest} crates",
+        "**Must-fail edits**: {edits.all} wrong programs",
+    ),
 }
 
 
@@ -166,6 +171,7 @@ def names(root: Path) -> dict[str, str]:
     shown["store.check-bits"] = str(8 * (found.numbers["store.check-to"] + 1 - found.numbers["store.check-at"]))
     shown |= {name: str(number) for name, number in stepped.numbers(root / "docs" / "example.store").items()}
     shown["crates.nest"], shown["crates.all"] = map(str, reached(root, "nest"))
+    shown["edits.all"] = str(len(all_edits(root)))
     return shown
 
 
