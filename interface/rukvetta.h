@@ -212,8 +212,8 @@ uint64_t rukvetta_nest(const uint8_t *bytes, uint64_t length, uint16_t *words, u
  * bytes[lent - 1] are as lent. Else refusal 4, if W is 0 or over RUKVETTA_RECORD_WORDS, or 10, if fewer than 512 bytes are lent
  * for each block: number * 65,536, and all bytes are as lent. `words` does not change, and no word behind the first W is read.
  *
- * A store that was accepted is written with the same bytes. What is written is read as the same words: where a record was
- * refused with 5 to 8 its words stand too, and are written.
+ * A store that was accepted is written with the same bytes. What is written is read as the same words: where reading refused
+ * a record, with 4 to 8, its words stand too, and are written.
  */
 uint32_t rukvetta_write(uint16_t *words, uint8_t *bytes, uint64_t lent);
 
