@@ -4,32 +4,32 @@ use Rattle.std.proofs.Math.Seq.{slice}
 use Rattle.meaning.specs.Graph.{Graph}
 use Rattle.format.specs.Store.{Answer, accepted, refused, store_words}
 use Rattle.format.specs.Accept.{accept}
-use Rattle.store.specs.Layout.{record-end, index-end}
+use Rattle.store.specs.Layout.{record_end, index_end}
 use Rattle.store.specs.Loaded.{answered}
 use Rattle.store.specs.declared.Verdict.{Verdict}
 use Rattle.record.specs.Stands.{Stands}
-use Rattle.record.specs.Outcome.{forget, RestKept, record-in}
+use Rattle.record.specs.Outcome.{forget, RestKept, record_in}
 use Rattle.accept.specs.declared.Accepted.{Accepted}
 use Rattle.accept.specs.declared.Accepted.TheVariants.{Record, Refused}
 use Rattle.accept.specs.Judged.{Judged}
 
 -- Document 01's number and word of each refusal.
-abbrev pub accept-answered : Accepted → Answer Unit
-accept-answered Record = accepted tt
-accept-answered (Refused n w) = refused n w
+abbrev pub accept_answered : Accepted → Answer Unit
+accept_answered Record = accepted tt
+accept_answered (Refused n w) = refused n w
 
 -- `old` are the words as lent, `new` as they are handed back. A store that is refused leaves them as lent. Otherwise its words
 -- stand in front, also where its record is refused, and only the index, words 4,048 to 4,399, may have changed besides.
 pub record Accepts (s old new : List ℕ) (a : Accepted) : Type 0 where
-  pub answer : accept-answered a ≡ forget (accept s)
+  pub answer : accept_answered a ≡ forget (accept s)
   pub stands : (g : Graph) → accept s ≡ accepted g → Stands new g
-  pub in-front : (ws : List ℕ) → store_words s ≡ accepted ws → take (length ws) new ≡ ws
-  pub between : (ws : List ℕ) → store_words s ≡ accepted ws → slice (length ws) record-end new ≡ slice (length ws) record-end old
+  pub in_front : (ws : List ℕ) → store_words s ≡ accepted ws → take (length ws) new ≡ ws
+  pub between : (ws : List ℕ) → store_words s ≡ accepted ws → slice (length ws) record_end new ≡ slice (length ws) record_end old
   pub size : length new ≡ length old
-  pub beyond : drop index-end new ≡ drop index-end old
+  pub beyond : drop index_end new ≡ drop index_end old
   pub as_lent : (n w : ℕ) → store_words s ≡ refused n w → new ≡ old
 
 -- Of the record in front of the words: what reading and references answer, and that only the index may have changed.
 pub record ReadChecked (old new : List ℕ) (a : Verdict) : Type 0 where
-  pub judged : Judged (record-in old) new (answered a)
+  pub judged : Judged (record_in old) new (answered a)
   pub kept : RestKept old new

@@ -1,7 +1,7 @@
 // From a store's bytes to the loaded and checked record: refusals 1 to 8.
 ghost use Rattle.std.specs.Prelude.{◌≡◌};
 ghost use Rattle.store.specs.Refusals.{refused_as};
-ghost use Rattle.accept.specs.Accepts.{accept-answered, Accepts, ReadChecked};
+ghost use Rattle.accept.specs.Accepts.{accept_answered, Accepts, ReadChecked};
 
 use store::refusals::{number, word};
 use store::{Loaded, Refusal, Verdict, WORDS, tells_length};
@@ -14,7 +14,7 @@ pub enum Accepted {
 }
 
 fn refused(why: Refusal) -> Accepted
-    ensures { accept-answered result ≡ refused_as why }
+    ensures { accept_answered result ≡ refused_as why }
 {
     Accepted::Refused(number(why), word(why))
 }

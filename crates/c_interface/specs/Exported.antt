@@ -6,12 +6,12 @@ use Rattle.accept.specs.declared.Accepted.{Accepted}
 use Rattle.accept.specs.declared.Accepted.TheVariants.{Record, Refused}
 use Rattle.accept.specs.Judged.{WordsGiven}
 use Rattle.accept.specs.Accepts.{Accepts}
-use Rattle.nesting.specs.Sheet.{answer-words}
+use Rattle.nesting.specs.Sheet.{answer_words}
 use Rattle.sheet.specs.Written.{lent}
 use Rattle.nester.specs.declared.SheetAnswer.{SheetAnswer}
 use Rattle.nester.specs.declared.SheetAnswer.TheVariants as nester
 use Rattle.nester.specs.Nests.{Nests}
-use Rattle.store.specs.Refusals.{refusal-number, refusal-word}
+use Rattle.store.specs.Refusals.{refusal_number, refusal_word}
 use Rattle.store.specs.Writes.{words_of, WritesStore}
 use Rattle.store.specs.declared.write.StoreWritten.{StoreWritten}
 use Rattle.store.specs.declared.write.StoreWritten.TheVariants as store
@@ -26,33 +26,33 @@ pub record AcceptExported (s old new : List ℕ) (a : ℕ) : Type 0 where
   pub answer : Accepted
   pub accepts : Accepts s old new answer
   pub is : a ≡ as_number answer
-  pub if-accepted : WordsGiven (accept s) → a ≡ 0
-  pub only-if-accepted : a ≡ 0 → WordsGiven (accept s)
-  pub if-refused : (n w : ℕ) → accept s ≡ refused n w → (a / 65536 ≡ n) × (a % 65536 ≡ w)
+  pub if_accepted : WordsGiven (accept s) → a ≡ 0
+  pub only_if_accepted : a ≡ 0 → WordsGiven (accept s)
+  pub if_refused : (n w : ℕ) → accept s ≡ refused n w → (a / 65536 ≡ n) × (a % 65536 ≡ w)
 
 -- ---- A sheet is its number of words; a refusal its number times 4,294,967,296, and its word.
-abbrev pub nested-number : SheetAnswer → ℕ
-nested-number (nester.Sheet n) = n
-nested-number (nester.Refused n w) = n * 4294967296 + w
+abbrev pub nested_number : SheetAnswer → ℕ
+nested_number (nester.Sheet n) = n
+nested_number (nester.Refused n w) = n * 4294967296 + w
 
 -- Below 4,294,967,296 exactly if the store nests and its sheet fits: no refusal has number 0.
 pub record NestExported (s old new out out' : List ℕ) (a : ℕ) : Type 0 where
   pub answer : SheetAnswer
   pub nests : Nests s old new out out' answer
-  pub is : a ≡ nested-number answer
-  pub if-sheet : (ws : List ℕ) → answer-words s (lent out) ≡ accepted ws → a ≡ length ws
-  pub if-refused : (n w : ℕ) → answer-words s (lent out) ≡ refused n w → (a / 4294967296 ≡ n) × (a % 4294967296 ≡ w)
+  pub is : a ≡ nested_number answer
+  pub if_sheet : (ws : List ℕ) → answer_words s (lent out) ≡ accepted ws → a ≡ length ws
+  pub if_refused : (n w : ℕ) → answer_words s (lent out) ≡ refused n w → (a / 4294967296 ≡ n) × (a % 4294967296 ≡ w)
 
 -- ---- A store that was written is its number of bytes; a refusal its number times 65,536, and its word.
-abbrev pub written-number : StoreWritten → ℕ
-written-number (store.Bytes n) = n
-written-number (store.Refused why) = refusal-number why * 65536 + refusal-word why
+abbrev pub written_number : StoreWritten → ℕ
+written_number (store.Bytes n) = n
+written_number (store.Refused why) = refusal_number why * 65536 + refusal_word why
 
 -- The state's words stay. The answer is below 65,536 exactly if the store was written: no refusal has number 0.
 pub record WriteExported (w w' out out' : List ℕ) (a : ℕ) : Type 0 where
   pub answer : StoreWritten
   pub writes : WritesStore w out out' answer
   pub kept : w' ≡ w
-  pub is : a ≡ written-number answer
-  pub if-written : (bs : List ℕ) → written (words_of w) (length out) ≡ accepted bs → a ≡ length bs
-  pub if-refused : (n x : ℕ) → written (words_of w) (length out) ≡ refused n x → (a / 65536 ≡ n) × (a % 65536 ≡ x)
+  pub is : a ≡ written_number answer
+  pub if_written : (bs : List ℕ) → written (words_of w) (length out) ≡ accepted bs → a ≡ length bs
+  pub if_refused : (n x : ℕ) → written (words_of w) (length out) ≡ refused n x → (a / 65536 ≡ n) × (a % 65536 ≡ x)

@@ -2,32 +2,32 @@
 use Rattle.std.specs.Prelude.{◌≡◌, Bool, List, ℕ, ◌<◌, eqb, length, get_or}
 use Rattle.meaning.specs.Graph.{Graph}
 use Rattle.format.specs.Valid.{Valid}
-use Rattle.nesting.specs.Nesting.{incoming-edge-counts}
-use Rattle.state_words.specs.Sections.{word, set-lengths}
+use Rattle.nesting.specs.Nesting.{incoming_edge_counts}
+use Rattle.state_words.specs.Sections.{word, set_lengths}
 use Rattle.cfg_start.specs.InitialState.{started}
 use Rattle.cfg_regions.specs.declared.claim.Claim.{Claim}
 use Rattle.cfg_regions.specs.declared.claim.Claim.TheVariants as claim
 use Rattle.cfg.specs.declared.func.Nested.{Nested}
 use Rattle.cfg.specs.declared.func.Nested.TheVariants.{Untouched, Whole, Closed, Leftover, Refused}
-use Rattle.cfg_claims.specs.Claims.{own-target, TriesClaim}
-use Rattle.state_words.specs.Rows.{return-word}
+use Rattle.cfg_claims.specs.Claims.{own_target, TriesClaim}
+use Rattle.state_words.specs.Rows.{return_word}
 use Rattle.store.specs.declared.refusals.Refusal.{Refusal}
 use Rattle.store.specs.declared.refusals.Refusal.TheVariants.{Never}
 
 -- By the entry's set: none, Return alone, or another.
 pub data Outcomes (w : List ℕ) (entry : ℕ) : Nested → Type 0 where
-  is-closed : word w set-lengths entry ≡ 0 → Outcomes w entry Closed
-  is_whole : word w set-lengths entry ≡ 1 → own-target w entry 0 ≡ return-word → Outcomes w entry Whole
-  one-elsewhere : word w set-lengths entry ≡ 1 → (own-target w entry 0 ≡ return-word → ⊥) → Outcomes w entry Leftover
-  more_left : (word w set-lengths entry ≡ 0 → ⊥) → (word w set-lengths entry ≡ 1 → ⊥) → Outcomes w entry Leftover
+  is_closed : word w set_lengths entry ≡ 0 → Outcomes w entry Closed
+  is_whole : word w set_lengths entry ≡ 1 → own_target w entry 0 ≡ return_word → Outcomes w entry Whole
+  one_elsewhere : word w set_lengths entry ≡ 1 → (own_target w entry 0 ≡ return_word → ⊥) → Outcomes w entry Leftover
+  more_left : (word w set_lengths entry ≡ 0 → ⊥) → (word w set_lengths entry ≡ 1 → ⊥) → Outcomes w entry Leftover
 
 -- What comes before the first claim: the counts, and the state at its beginning.
 pub record Begins (g : Graph) (w counts w' : List ℕ) : Type 0 where
-  pub counted : Valid g → (r : ℕ) → r < length g.regions → get_or counts r 0 ≡ get_or (incoming-edge-counts g) r 0
+  pub counted : Valid g → (r : ℕ) → r < length g.regions → get_or counts r 0 ≡ get_or (incoming_edge_counts g) r 0
   pub begun : w' ≡ started g w
 
-abbrev pub entered-once : Graph → List ℕ → Bool
-entered-once g counts = eqb (get_or counts g.entry 0) 1
+abbrev pub entered_once : Graph → List ℕ → Bool
+entered_once g counts = eqb (get_or counts g.entry 0) 1
 
 -- What is concluded from the claim's answer, which left the words w.
 pub data Concludes (g : Graph) (w : List ℕ) : Claim → Nested → Type 0 where
@@ -43,5 +43,5 @@ pub data FuncBy (g : Graph) (counts w w' : List ℕ) : Nested → Type 0 where
 -- The counts that the code was given are the definition's.
 pub record Func (g : Graph) (w w' : List ℕ) (a : Nested) : Type 0 where
   pub counts : List ℕ
-  pub right : (r : ℕ) → r < length g.regions → get_or counts r 0 ≡ get_or (incoming-edge-counts g) r 0
+  pub right : (r : ℕ) → r < length g.regions → get_or counts r 0 ≡ get_or (incoming_edge_counts g) r 0
   pub steps : FuncBy g counts (started g w) w' a

@@ -3,7 +3,7 @@ ghost use Rattle.std.specs.Prelude.{◌≡◌, length};
 ghost use Rattle.record.specs.Stands.{OfRecord};
 ghost use Rattle.format.specs.Valid.{Valid};
 ghost use Rattle.cfg_claims.specs.Claims.{Stood, TriesClaim};
-ghost use Rattle.nesting.specs.Nesting.{structurize-func};
+ghost use Rattle.nesting.specs.Nesting.{structurize_func};
 ghost use Rattle.cfg.specs.Func as words;
 ghost use Rattle.cfg.specs.FuncShown.{ShowsNested};
 
@@ -37,7 +37,7 @@ fn before_claim(w: &mut [u16; WORDS]) -> [u32; 32]
 
 // Whether the entry's count is ONE: if not, nothing is claimed.
 fn entered_once(w: &[u16; WORDS], counts: &[u32; 32]) -> bool
-    ensures { OfRecord w.now (λ g. result ≡ words.«entered-once» g counts.now) }
+    ensures { OfRecord w.now (λ g. result ≡ words.«entered_once» g counts.now) }
 {
     count_of(counts, fields::entry(w)).same(ONE)
 }
@@ -81,7 +81,7 @@ fn conclude(w: &[u16; WORDS], claim: Claim) -> Nested
 // From an accepted record that stands in the words: its outcome, with the tables and the state that the words then show.
 pub fn structurize_func(w: &mut [u16; WORDS]) -> Nested
     requires { Stood w.old }
-    ensures { OfRecord w.old (λ g. Valid g → ShowsNested g w.old w.new (structurize-func g) result) }
+    ensures { OfRecord w.old (λ g. Valid g → ShowsNested g w.old w.new (structurize_func g) result) }
 {
     let counts = before_claim(w);
     if !entered_once(w, &counts) {

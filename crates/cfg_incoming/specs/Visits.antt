@@ -1,8 +1,8 @@
 -- The loop of visits: the regions to visit stand on a stack, those visited are marked, and their edges are counted at once.
 use Rattle.std.specs.Prelude.{◌≡◌, Bool, true, false, List, ℕ, ◌+◌, ◌-◌, ◌*◌, ◌≤◌, ◌<◌, length, get_or, set}
 use Rattle.meaning.specs.Graph.{Graph}
-use Rattle.meaning.specs.Lists.{All, is-in, pick, total}
-use Rattle.nesting.specs.Nesting.{visit, reachable, incoming-edge-count}
+use Rattle.meaning.specs.Lists.{All, is_in, pick, total}
+use Rattle.nesting.specs.Nesting.{visit, reachable, incoming_edge_count}
 use Rattle.cfg_incoming.specs.Counted.{AtMost}
 
 -- ---- How many of the regions are not marked: it bounds the stack and the counts.
@@ -32,7 +32,7 @@ pub record Room (seen : List Bool) (counts : List ℕ) (depth : ℕ) : Type 0 wh
 -- What the loop has visited, of what the definition visits: `live` in its order, with the fuel and the regions that are left.
 pub record Visiting (g : Graph) (fuel : ℕ) (todo : List ℕ) (seen : List Bool) (counts : List ℕ) : Type 0 where
   pub live : List ℕ
-  pub marked : (a : ℕ) → a < 32 → get_or seen a false ≡ is-in a live
+  pub marked : (a : ℕ) → a < 32 → get_or seen a false ≡ is_in a live
   pub inside : All (λ t. t < length g.regions) todo
   pub whole : visit g fuel todo live ≡ reachable g
-  pub counted : (a : ℕ) → a < 32 → get_or counts a 0 ≡ incoming-edge-count g live a
+  pub counted : (a : ℕ) → a < 32 → get_or counts a 0 ≡ incoming_edge_count g live a

@@ -1,9 +1,9 @@
 // Incoming edge counts, of edges from regions that the entry reaches: the Rust's incoming_edge_counts_including_loop_exits.
 ghost use Rattle.std.specs.Prelude.{◌≡◌, true, ◌∷◌, ◌++◌, ℕ, suc, ◌+◌, ◌≤◌, ◌<◌, min, length, get_or};
-ghost use Rattle.meaning.specs.Graph.{region, edges-of, targets_of};
+ghost use Rattle.meaning.specs.Graph.{region, edges_of, targets_of};
 ghost use Rattle.meaning.specs.Lists.{total};
 ghost use Rattle.format.specs.Valid.{Valid};
-ghost use Rattle.nesting.specs.Nesting.{incoming-edge-counts, exit-targets};
+ghost use Rattle.nesting.specs.Nesting.{incoming_edge_counts, exit_targets};
 ghost use Rattle.record.specs.Stands.{OfRecord};
 ghost use Rattle.fields.specs.ByNumber.{before};
 ghost use Rattle.cfg_incoming.specs.Counted.{AtMost, OneMore, GainsAll, Grows};
@@ -55,7 +55,7 @@ fn count_targets(w: &[u16; WORDS], r: u16, counts: &mut [u32; 32])
 fn count_exits(w: &[u16; WORDS], r: u16, counts: &mut [u32; 32])
     requires { AtMost counts.old 4294901760 }
     ensures grows { Grows counts.old counts.new 65535 }
-    ensures of_record { OfRecord w.now (λ g. GainsAll counts.old counts.new (exit-targets g r)) }
+    ensures of_record { OfRecord w.now (λ g. GainsAll counts.old counts.new (exit_targets g r)) }
 {
     let n = fields::exit_count(w, r);
     let mut k: u16 = 0;
@@ -67,7 +67,7 @@ fn count_exits(w: &[u16; WORDS], r: u16, counts: &mut [u32; 32])
 
 // One visit for the entry and one for each edge.
 fn visit_count(w: &[u16; WORDS]) -> u32
-    ensures { OfRecord w.now (λ g. result ≡ suc (total (λ x. length (edges-of x.terminator)) g.regions)) }
+    ensures { OfRecord w.now (λ g. result ≡ suc (total (λ x. length (edges_of x.terminator)) g.regions)) }
 {
     let n = fields::region_count(w);
     let mut sum: u32 = 1;
@@ -82,7 +82,7 @@ fn visit_count(w: &[u16; WORDS]) -> u32
 // At most eight: a region of a valid record has no more.
 fn few_targets(w: &[u16; WORDS], r: u16) -> u16
     ensures upper_bound { result ≤ 8 }
-    ensures of_record { OfRecord w.now (λ g. result ≡ min (length (edges-of (region g r).terminator)) 8) }
+    ensures of_record { OfRecord w.now (λ g. result ≡ min (length (edges_of (region g r).terminator)) 8) }
 {
     let n = fields::target_count(w, r);
     if n < 8 {
@@ -95,7 +95,7 @@ fn few_targets(w: &[u16; WORDS], r: u16) -> u16
 fn push_targets(w: &[u16; WORDS], r: u16, todo: &mut [u16; 264], depth: usize) -> usize
     requires { depth ≤ 256 }
     ensures upper_bound { result ≤ depth + 8 }
-    ensures of_record { OfRecord w.now (λ g. length (edges-of (region g r).terminator) ≤ 8
+    ensures of_record { OfRecord w.now (λ g. length (edges_of (region g r).terminator) ≤ 8
         → before todo.new result ≡ targets_of g r ++ before todo.old depth) }
 {
     store::tells_length(todo);
@@ -150,7 +150,7 @@ fn visit(
 // Edges to each region, from the regions that the entry reaches; one more for the entry.
 pub fn incoming_edge_counts(w: &[u16; WORDS]) -> [u32; 32]
     ensures { OfRecord w.now (λ g. Valid g → (r : ℕ) → r < length g.regions
-        → get_or result r 0 ≡ get_or (incoming-edge-counts g) r 0) }
+        → get_or result r 0 ≡ get_or (incoming_edge_counts g) r 0) }
 {
     let mut counts = [0u32; 32];
     let mut seen = [false; 32];

@@ -2,47 +2,47 @@
 use Rattle.std.specs.Prelude.{◌≡◌, Bool, true, false, List, ℕ, ◌+◌, ◌≤◌, ◌<◌, get_or, set, replicate, eqb}
 use Rattle.state_words.specs.declared.defined.Defined.{Defined}
 use Rattle.state_words.specs.declared.defined.Defined.TheVariants.{Number, Full}
-use Rattle.state_words.specs.Values.{output-word, undef-word, true-word, false-word}
-use Rattle.state_nodes.specs.NodeTables.{earlier-part, shape_size, OutputDefined}
+use Rattle.state_words.specs.Values.{output_word, undef_word, true_word, false_word}
+use Rattle.state_nodes.specs.NodeTables.{earlier_part, shape_size, OutputDefined}
 use Rattle.meaning.specs.Lists.{pick}
-use Rattle.state_words.specs.Values.{undef-from}
-use Rattle.state_words.specs.Rows.{merge-node, merge-part, merge-scrutinee, merge-shape, bool-shape, condition-true, condition-false}
-use Rattle.state_words.specs.Rows.{merges-from}
+use Rattle.state_words.specs.Values.{undef_from}
+use Rattle.state_words.specs.Rows.{merge_node, merge_part, merge_scrutinee, merge_shape, bool_shape, condition_true, condition_false}
+use Rattle.state_words.specs.Rows.{merges_from}
 
-unfoldable pub is-scrutinee : ℕ → List ℕ → Bool
-is-scrutinee shape vs = pick (eqb shape bool-shape) (pick (eqb (get_or vs 0 0) true-word) (eqb (get_or vs 1 0) false-word) false) false
+unfoldable pub is_scrutinee : ℕ → List ℕ → Bool
+is_scrutinee shape vs = pick (eqb shape bool_shape) (pick (eqb (get_or vs 0 0) true_word) (eqb (get_or vs 1 0) false_word) false) false
 
 abbrev pub shape_at : List ℕ → ℕ → ℕ
-shape_at l c = merge-shape l c
+shape_at l c = merge_shape l c
 
 abbrev pub part_at : List ℕ → ℕ → ℕ → ℕ
-part_at l c j = earlier-part (merge-part l c j) c
+part_at l c j = earlier_part (merge_part l c j) c
 
 -- The parts' values put together: the scrutinee of record c, or a new output of its select.
 pub data Merges (l : List ℕ) (c : ℕ) (vs l' : List ℕ) : Defined → Type 0 where
-  the-scrutinee : {x : ℕ} → is-scrutinee (shape_at l c) vs ≡ true → x ≡ merge-scrutinee l c → l' ≡ l
+  the_scrutinee : {x : ℕ} → is_scrutinee (shape_at l c) vs ≡ true → x ≡ merge_scrutinee l c → l' ≡ l
       → Merges l c vs l' (Number x)
-  new-output : {o x : ℕ} → is-scrutinee (shape_at l c) vs ≡ false → OutputDefined (merge-node l c) 1 vs l l' (Number o)
-      → x ≡ output-word o → Merges l c vs l' (Number x)
-  no_output : is-scrutinee (shape_at l c) vs ≡ false → OutputDefined (merge-node l c) 1 vs l l' Full → Merges l c vs l' Full
+  new_output : {o x : ℕ} → is_scrutinee (shape_at l c) vs ≡ false → OutputDefined (merge_node l c) 1 vs l l' (Number o)
+      → x ≡ output_word o → Merges l c vs l' (Number x)
+  no_output : is_scrutinee (shape_at l c) vs ≡ false → OutputDefined (merge_node l c) 1 vs l l' Full → Merges l c vs l' Full
 
 mutual
   -- From words l condition c is made real; l' are the words then.
   pub data Materializes : List ℕ → ℕ → List ℕ → Defined → Type 0 where
-    made-true : {l l' : List ℕ} {c : ℕ} → c ≡ condition-true → l' ≡ l → Materializes l c l' (Number true-word)
-    made-false : {l l' : List ℕ} {c : ℕ} → c ≡ condition-false → l' ≡ l → Materializes l c l' (Number false-word)
-    made-undef : {l l' : List ℕ} {c x : ℕ} → (c ≡ condition-true → ⊥) → (c ≡ condition-false → ⊥) → c < merges-from → x ≡ undef-word 1
+    made_true : {l l' : List ℕ} {c : ℕ} → c ≡ condition_true → l' ≡ l → Materializes l c l' (Number true_word)
+    made_false : {l l' : List ℕ} {c : ℕ} → c ≡ condition_false → l' ≡ l → Materializes l c l' (Number false_word)
+    made_undef : {l l' : List ℕ} {c x : ℕ} → (c ≡ condition_true → ⊥) → (c ≡ condition_false → ⊥) → c < merges_from → x ≡ undef_word 1
         → l' ≡ l → Materializes l c l' (Number x)
-    made-merge : {l l₁ l' vs : List ℕ} {c : ℕ} {a : Defined} → merges-from ≤ c → PartsMade l c (shape_size (shape_at l c)) l₁ vs
+    made_merge : {l l₁ l' vs : List ℕ} {c : ℕ} {a : Defined} → merges_from ≤ c → PartsMade l c (shape_size (shape_at l c)) l₁ vs
         → Merges l₁ c vs l' a → Materializes l c l' a
-    full-part : {l l₁ l' vs : List ℕ} {c j p : ℕ} → merges-from ≤ c → j < shape_size (shape_at l c) → PartsMade l c j l₁ vs
+    full_part : {l l₁ l' vs : List ℕ} {c j p : ℕ} → merges_from ≤ c → j < shape_size (shape_at l c) → PartsMade l c j l₁ vs
         → p ≡ part_at l₁ c j
         → Materializes l₁ p l' Full
         → Materializes l c l' Full
 
   -- The first j parts of record c are made: the words then, and the values in eight words.
   pub data PartsMade : List ℕ → ℕ → ℕ → List ℕ → List ℕ → Type 0 where
-    no_part : {l l₁ vs : List ℕ} {c j : ℕ} → j ≡ 0 → l₁ ≡ l → vs ≡ replicate 8 undef-from → PartsMade l c j l₁ vs
-    part-more : {l l₁ l₂ vs ws : List ℕ} {c j i p v : ℕ} → PartsMade l c j l₁ vs → j < shape_size (shape_at l c) → p ≡ part_at l₁ c j
+    no_part : {l l₁ vs : List ℕ} {c j : ℕ} → j ≡ 0 → l₁ ≡ l → vs ≡ replicate 8 undef_from → PartsMade l c j l₁ vs
+    part_more : {l l₁ l₂ vs ws : List ℕ} {c j i p v : ℕ} → PartsMade l c j l₁ vs → j < shape_size (shape_at l c) → p ≡ part_at l₁ c j
         → Materializes l₁ p l₂ (Number v)
         → i ≡ j + 1 → ws ≡ set vs j v → PartsMade l c i l₂ ws

@@ -27,7 +27,7 @@ fn plain(value: u16) -> LookUp
 
 // Whether the entry of a marked value's region would change it again: it does not renumber it to itself.
 fn changes_again(w: &[u16; WORDS], v: u16) -> bool
-    ensures { result ≡ words.«changes-again» w.now v }
+    ensures { result ≡ words.«changes_again» w.now v }
 {
     let r = input_region(v);
     let kind = rewrite_kind(w, r);

@@ -11,9 +11,9 @@ abbrev pub Steps : Type 1
 Steps = ℕ → List ℕ → List ℕ → Made → Type 0
 
 pub data Turns (Step : Steps) : ℕ → ℕ → List ℕ → List ℕ → Made → Type 0 where
-  turns-over : {n j : ℕ} {l l' : List ℕ} → n ≡ 0 → l' ≡ l → Turns Step n j l l' Done
+  turns_over : {n j : ℕ} {l l' : List ℕ} → n ≡ 0 → l' ≡ l → Turns Step n j l l' Done
   turn_on : {n m j : ℕ} {l l₁ l' : List ℕ} {a : Made} → n ≡ suc m → Step j l l₁ Done → Turns Step m (suc j) l₁ l' a → Turns Step n j l l' a
-  turn-refused : {n m j : ℕ} {l l' : List ℕ} → n ≡ suc m → Step j l l' Full → Turns Step n j l l' Full
+  turn_refused : {n m j : ℕ} {l l' : List ℕ} → n ≡ suc m → Step j l l' Full → Turns Step n j l l' Full
 
 -- Whatever the turns that are left make is made of all: the loop's invariant.
 abbrev pub TurnsOn : Steps → ℕ → ℕ → List ℕ → List ℕ → Type 0

@@ -12,6 +12,6 @@ mended s =
     let check = weighted s 0 508 in
     set (set (set (set s 508 (check % 256)) 509 (check / 256 % 256)) 510 (check / 65536 % 256)) 511 (check / 16777216)
 
-abbrev pub bit-changed : Bool → List ℕ → ℕ → List ℕ
-bit-changed true s bit = mended (flipped s bit)
-bit-changed false s bit = flipped s bit
+abbrev pub bit_changed : Bool → List ℕ → ℕ → List ℕ
+bit_changed true s bit = mended (flipped s bit)
+bit_changed false s bit = flipped s bit

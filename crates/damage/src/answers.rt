@@ -1,8 +1,8 @@
 // Answers in two bytes each: a refusal's number and its word; 0 and the sum of its text's bytes, by 256, for a record.
 ghost use Rattle.std.specs.Prelude.{◌≡◌, ◌+◌, ◌%◌, ◌≤◌, length, take};
 ghost use Rattle.format.specs.Accept.{accept};
-ghost use Rattle.text_parts.specs.Listing.{shown-text};
-ghost use Rattle.damage.specs.Answers.{sum-from, brief, is-listed};
+ghost use Rattle.text_parts.specs.Listing.{shown_text};
+ghost use Rattle.damage.specs.Answers.{sum_from, brief, is_listed};
 
 use accept::Accepted;
 use store::WORDS;
@@ -27,7 +27,7 @@ fn plus(sum: u8, b: u8) -> u8
 }
 
 fn sum_of(text: &[u8]) -> u8
-    ensures { result ≡ sum-from 0 text.now }
+    ensures { result ≡ sum_from 0 text.now }
 {
     let mut sum: u8 = 0;
     let mut i: usize = 0;
@@ -41,7 +41,7 @@ fn sum_of(text: &[u8]) -> u8
 // The sum of the text that is shown of a store.
 fn shown_sum(bytes: &[u8], words: &mut [u16; WORDS], out: &mut [u8]) -> u8
     requires { length out.old ≡ 65536 }
-    ensures { result ≡ sum-from 0 (shown-text (accept bytes.now)) }
+    ensures { result ≡ sum_from 0 (shown_text (accept bytes.now)) }
 {
     let written = text_show::show(bytes, words, out);
     let Written::Bytes(n) = written else {
@@ -71,7 +71,7 @@ pub fn answer_of(bytes: &[u8], size: usize, words: &mut [u16; WORDS], out: &mut 
 
 // Whether an answer is the one at place k of the list.
 pub fn is_listed(a: Brief, answers: &[u8], k: usize) -> bool
-    ensures { result ≡ is-listed a answers.now k }
+    ensures { result ≡ is_listed a answers.now k }
 {
     if k >= answers.len() / 2 {
         return false;

@@ -1,8 +1,8 @@
 // Changed stores, and how many of their answers are the listed ones.
 ghost use Rattle.std.specs.Prelude.{◌≡◌, ◌+◌, ◌-◌, ◌≤◌, ◌<◌, length};
-ghost use Rattle.vectors.specs.Tally.{tally-of};
-ghost use Rattle.damage.specs.Answers.{bit-right, length-as-listed};
-ghost use Rattle.damage.specs.Changes.{flipped, mended, bit-changed};
+ghost use Rattle.vectors.specs.Tally.{tally_of};
+ghost use Rattle.damage.specs.Answers.{bit_right, length_as_listed};
+ghost use Rattle.damage.specs.Changes.{flipped, mended, bit_changed};
 
 use super::answers::{answer_of, is_listed};
 use store::WORDS;
@@ -33,7 +33,7 @@ fn mend(block: [u8; 512]) -> [u8; 512]
 
 fn change(block: [u8; 512], bit: usize, right_check: bool) -> [u8; 512]
     requires { bit < 4096 }
-    ensures { result ≡ bit-changed right_check block bit }
+    ensures { result ≡ bit_changed right_check block bit }
 {
     let b = flip(block, bit);
     if right_check {
@@ -53,7 +53,7 @@ pub fn bits(
     out: &mut [u8; TEXT],
 ) -> Tally
     requires { (from ≤ to) × (to ≤ 4096) }
-    ensures { result ≡ tally-of (bit-right right_check block answers.now from) (to - from) }
+    ensures { result ≡ tally_of (bit_right right_check block answers.now from) (to - from) }
 {
     let mut t = Tally {
         agree: 0,
@@ -76,7 +76,7 @@ pub fn lengths(
     words: &mut [u16; WORDS],
     out: &mut [u8; TEXT],
 ) -> Tally
-    ensures { result ≡ tally-of (length-as-listed bytes.now answers.now) (length bytes.now + 1) }
+    ensures { result ≡ tally_of (length_as_listed bytes.now answers.now) (length bytes.now + 1) }
 {
     let mut t = Tally {
         agree: 0,

@@ -1,12 +1,12 @@
 // An accepted record's fields, by the words that it stands in and the index behind them. Each accessor takes any words and any
 // numbers; a number that names nothing gets the definition's answer for it: 0, an empty list, Nothing, an unreachable region.
 ghost use Rattle.std.specs.Prelude.{◌≡◌, ◌*◌, ◌≤◌, length, get_or};
-ghost use Rattle.meaning.specs.Graph.{no_value, region, edges-of, targets_of};
-ghost use Rattle.format.specs.References.{instructions, instr-type};
+ghost use Rattle.meaning.specs.Graph.{no_value, region, edges_of, targets_of};
+ghost use Rattle.format.specs.References.{instructions, instr_type};
 ghost use Rattle.record.specs.Stands.{OfRecord};
-ghost use Rattle.fields.specs.Shape.{value-is, instruction-is, terminator-is};
-ghost use Rattle.fields.specs.ByNumber.{BlocksBefore, ValuesAt, block_of, instr-of, instructions-before, end-values};
-ghost use Rattle.fields.specs.ByNumber.{edge_of, stands-before};
+ghost use Rattle.fields.specs.Shape.{value_is, instruction_is, terminator_is};
+ghost use Rattle.fields.specs.ByNumber.{BlocksBefore, ValuesAt, block_of, instr_of, instructions_before, end_values};
+ghost use Rattle.fields.specs.ByNumber.{edge_of, stands_before};
 
 mod places;
 pub mod shape;
@@ -40,7 +40,7 @@ pub fn entry(w: &[u16; WORDS]) -> u16
 }
 
 pub fn test_cost(w: &[u16; WORDS]) -> u16
-    ensures { OfRecord w.now (λ g. result ≡ g.test-cost) }
+    ensures { OfRecord w.now (λ g. result ≡ g.test_cost) }
 {
     word_at(w, 3)
 }
@@ -96,7 +96,7 @@ pub fn block_length(w: &[u16; WORDS], r: u16, b: u16) -> u16
 
 // How many instructions region r has before block b: the index of its first.
 pub fn instructions_before(w: &[u16; WORDS], r: u16, b: u16) -> u32
-    ensures of_record { OfRecord w.now (λ g. result ≡ instructions-before (region g r).blocks b) }
+    ensures of_record { OfRecord w.now (λ g. result ≡ instructions_before (region g r).blocks b) }
     ensures upper_bound { result ≤ 65535 * b }
 {
     let mut instructions: u32 = 0;
@@ -109,7 +109,7 @@ pub fn instructions_before(w: &[u16; WORDS], r: u16, b: u16) -> u32
 }
 
 pub fn instruction(w: &[u16; WORDS], r: u16, b: u16, i: u16) -> Instruction
-    ensures { OfRecord w.now (λ g. result ≡ instruction-is (instr-of g r b i)) }
+    ensures { OfRecord w.now (λ g. result ≡ instruction_is (instr_of g r b i)) }
 {
     let p = instruction_place(w, r, b, i) as usize;
     Instruction {
@@ -121,7 +121,7 @@ pub fn instruction(w: &[u16; WORDS], r: u16, b: u16, i: u16) -> Instruction
 }
 
 pub fn read(w: &[u16; WORDS], r: u16, b: u16, i: u16, k: u16) -> Value
-    ensures { OfRecord w.now (λ g. value-is result ≡ get_or (instr-of g r b i).reads k no_value) }
+    ensures { OfRecord w.now (λ g. value_is result ≡ get_or (instr_of g r b i).reads k no_value) }
 {
     value_item(w, place((instruction_place(w, r, b, i) as usize) + 3), k)
 }
@@ -142,7 +142,7 @@ pub fn instruction_count(w: &[u16; WORDS], r: u16) -> usize
 
 // The type of the output of instruction k, counted through the blocks of region r.
 pub fn output_type(w: &[u16; WORDS], r: u16, k: u16) -> u16
-    ensures { OfRecord w.now (λ g. result ≡ instr-type (region g r) k) }
+    ensures { OfRecord w.now (λ g. result ≡ instr_type (region g r) k) }
 {
     let n = block_count(w, r);
     let mut left = k;
@@ -169,7 +169,7 @@ pub fn limit(w: &[u16; WORDS], r: u16) -> u16
 }
 
 pub fn terminator(w: &[u16; WORDS], r: u16) -> Terminator
-    ensures { OfRecord w.now (λ g. terminator-is result (region g r).terminator ≡ (region g r).terminator) }
+    ensures { OfRecord w.now (λ g. terminator_is result (region g r).terminator ≡ (region g r).terminator) }
 {
     let p = indexed(w, r, LIMIT) as usize;
     let kind = word_at(w, p + 1);
@@ -193,25 +193,25 @@ pub fn terminator(w: &[u16; WORDS], r: u16) -> Terminator
 
 // Where the terminator's values stand; value_item gives each of them.
 pub fn value_list(w: &[u16; WORDS], r: u16) -> u16
-    ensures { OfRecord w.now (λ g. ValuesAt w.now result (end-values g r)) }
+    ensures { OfRecord w.now (λ g. ValuesAt w.now result (end_values g r)) }
 {
     values_place(w, r)
 }
 
 pub fn value_count(w: &[u16; WORDS], r: u16) -> u16
-    ensures { OfRecord w.now (λ g. result ≡ length (end-values g r)) }
+    ensures { OfRecord w.now (λ g. result ≡ length (end_values g r)) }
 {
     word_at(w, values_place(w, r) as usize)
 }
 
 pub fn value(w: &[u16; WORDS], r: u16, k: u16) -> Value
-    ensures { OfRecord w.now (λ g. value-is result ≡ get_or (end-values g r) k no_value) }
+    ensures { OfRecord w.now (λ g. value_is result ≡ get_or (end_values g r) k no_value) }
 {
     value_item(w, values_place(w, r), k)
 }
 
 pub fn target_count(w: &[u16; WORDS], r: u16) -> u16
-    ensures { OfRecord w.now (λ g. result ≡ length (edges-of (region g r).terminator)) }
+    ensures { OfRecord w.now (λ g. result ≡ length (edges_of (region g r).terminator)) }
 {
     word_at(w, targets_place(w, r) as usize)
 }
@@ -236,7 +236,7 @@ pub fn passed_count(w: &[u16; WORDS], r: u16, j: u16) -> u16
 }
 
 pub fn passed(w: &[u16; WORDS], r: u16, j: u16, k: u16) -> Value
-    ensures { OfRecord w.now (λ g. value-is result ≡ get_or (edge_of g r j).inputs k no_value) }
+    ensures { OfRecord w.now (λ g. value_is result ≡ get_or (edge_of g r j).inputs k no_value) }
 {
     value_item(w, passed_place(w, r, j), k)
 }
@@ -255,14 +255,14 @@ pub fn exit_target(w: &[u16; WORDS], r: u16, k: u16) -> u16
 
 // Whether the target at place j stands at an earlier place too.
 pub fn target_again(w: &[u16; WORDS], r: u16, j: u16) -> bool
-    ensures { OfRecord w.now (λ g. result ≡ stands-before (targets_of g r) j) }
+    ensures { OfRecord w.now (λ g. result ≡ stands_before (targets_of g r) j) }
 {
     stood_before(w, targets_place(w, r), j)
 }
 
 // Whether exit k stands earlier in its list too.
 pub fn exit_again(w: &[u16; WORDS], r: u16, k: u16) -> bool
-    ensures { OfRecord w.now (λ g. result ≡ stands-before (region g r).exits k) }
+    ensures { OfRecord w.now (λ g. result ≡ stands_before (region g r).exits k) }
 {
     stood_before(w, indexed(w, r, EXITS), k)
 }

@@ -20,13 +20,13 @@ pub fn indexed(w: &[u16; WORDS], r: u16, i: usize) -> u16
 
 // The block count stands behind the inputs.
 pub fn blocks_place(w: &[u16; WORDS], r: u16) -> u16
-    ensures { result ≡ words.blocks-place w.now r }
+    ensures { result ≡ words.blocks_place w.now r }
 {
     behind_words(w, indexed(w, r, START))
 }
 
 pub fn block_place(w: &[u16; WORDS], r: u16, b: u16) -> u16
-    ensures { result ≡ words.block-place w.now r b }
+    ensures { result ≡ words.block_place w.now r b }
 {
     if b < word_at(w, blocks_place(w, r) as usize) {
         return indexed(w, r, BLOCK_PLACES + (b as usize));
@@ -36,7 +36,7 @@ pub fn block_place(w: &[u16; WORDS], r: u16, b: u16) -> u16
 
 // The place behind i instructions: each has four words, the last of them the count of its reads.
 fn behind_instructions(w: &[u16; WORDS], first: u16, i: u16) -> u16
-    ensures { result ≡ words.behind-instructions w.now i first }
+    ensures { result ≡ words.behind_instructions w.now i first }
 {
     let mut p = first;
     let mut n: u16 = 0;
@@ -48,7 +48,7 @@ fn behind_instructions(w: &[u16; WORDS], first: u16, i: u16) -> u16
 }
 
 pub fn instruction_place(w: &[u16; WORDS], r: u16, b: u16, i: u16) -> u16
-    ensures { result ≡ words.instruction-place w.now r b i }
+    ensures { result ≡ words.instruction_place w.now r b i }
 {
     let p = block_place(w, r, b);
     if i < word_at(w, p as usize) {
@@ -59,7 +59,7 @@ pub fn instruction_place(w: &[u16; WORDS], r: u16, b: u16, i: u16) -> u16
 
 // The kind stands behind the turn limit; an opcode word stands for ExitInvocation only.
 pub fn values_place(w: &[u16; WORDS], r: u16) -> u16
-    ensures { result ≡ words.values-place w.now r }
+    ensures { result ≡ words.values_place w.now r }
 {
     let p = indexed(w, r, LIMIT) as usize;
     if word_at(w, p + 1) == TERMINATOR_EXIT {
@@ -69,14 +69,14 @@ pub fn values_place(w: &[u16; WORDS], r: u16) -> u16
 }
 
 pub fn targets_place(w: &[u16; WORDS], r: u16) -> u16
-    ensures { result ≡ words.targets-place w.now r }
+    ensures { result ≡ words.targets_place w.now r }
 {
     behind_values(w, values_place(w, r))
 }
 
 // The place behind the list of the target at place q, which has one where it stands for the first time.
 fn behind_list(w: &[u16; WORDS], targets: u16, q: u16, p: u16) -> u16
-    ensures { result ≡ words.behind-list w.now targets q p }
+    ensures { result ≡ words.behind_list w.now targets q p }
 {
     if stood_before(w, targets, q) {
         return p;
@@ -86,8 +86,8 @@ fn behind_list(w: &[u16; WORDS], targets: u16, q: u16, p: u16) -> u16
 
 // The values passed to target t, of those that stand at `targets`: each distinct target has a list.
 fn list_for(w: &[u16; WORDS], targets: u16, t: u16) -> u16
-    ensures { result ≡ words.list-for w.now targets t (get_or w.now targets 0) 0
-        (words.behind-words w.now targets) }
+    ensures { result ≡ words.list_for w.now targets t (get_or w.now targets 0) 0
+        (words.behind_words w.now targets) }
 {
     let n = word_at(w, targets as usize);
     let mut p = behind_words(w, targets);
@@ -103,7 +103,7 @@ fn list_for(w: &[u16; WORDS], targets: u16, t: u16) -> u16
 }
 
 pub fn passed_place(w: &[u16; WORDS], r: u16, j: u16) -> u16
-    ensures { result ≡ words.passed-place w.now r j }
+    ensures { result ≡ words.passed_place w.now r j }
 {
     let targets = targets_place(w, r);
     if j < word_at(w, targets as usize) {

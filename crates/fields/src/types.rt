@@ -3,8 +3,8 @@ ghost use Rattle.std.specs.Prelude.{◌≡◌, get_or};
 ghost use Rattle.meaning.specs.Graph.{no_value, region};
 ghost use Rattle.format.specs.References as format;
 ghost use Rattle.record.specs.Stands.{OfRecord};
-ghost use Rattle.fields.specs.ByNumber.{end-values};
-ghost use Rattle.fields.specs.Shape.{value-is};
+ghost use Rattle.fields.specs.ByNumber.{end_values};
+ghost use Rattle.fields.specs.Shape.{value_is};
 
 use super::shape::{Terminator, Value};
 use super::{
@@ -14,7 +14,7 @@ use store::WORDS;
 
 // The type of a value used in region r behind its first `before` instructions; 0 where it names nothing allowed there.
 pub fn type_in(w: &[u16; WORDS], r: u16, before: usize, v: Value) -> u16
-    ensures { OfRecord w.now (λ g. result ≡ format.type-in g r before (value-is v)) }
+    ensures { OfRecord w.now (λ g. result ≡ format.type_in g r before (value_is v)) }
 {
     match v {
         Value::Const(i) => constant_type(w, i),
@@ -39,7 +39,7 @@ pub fn type_in(w: &[u16; WORDS], r: u16, before: usize, v: Value) -> u16
 }
 
 fn is_return(w: &[u16; WORDS], r: u16) -> bool
-    ensures { OfRecord w.now (λ g. result ≡ format.is-return (region g r).terminator) }
+    ensures { OfRecord w.now (λ g. result ≡ format.is_return (region g r).terminator) }
 {
     let t = terminator(w, r);
     match t {
@@ -54,7 +54,7 @@ fn is_return(w: &[u16; WORDS], r: u16) -> bool
 
 // How many regions stand before the first Return region.
 pub fn first_return(w: &[u16; WORDS]) -> u16
-    ensures { OfRecord w.now (λ g. result ≡ format.first-return g.regions) }
+    ensures { OfRecord w.now (λ g. result ≡ format.first_return g.regions) }
 {
     let n = region_count(w);
     let mut q: u16 = 0;
@@ -69,7 +69,7 @@ pub fn first_return(w: &[u16; WORDS]) -> u16
 
 // The type of value k that region q returns.
 pub fn return_type(w: &[u16; WORDS], q: u16, k: u16) -> u16
-    ensures { OfRecord w.now (λ g. result ≡ format.type-in g q (format.behind-all g q) (get_or (end-values g q) k no_value)) }
+    ensures { OfRecord w.now (λ g. result ≡ format.type_in g q (format.behind_all g q) (get_or (end_values g q) k no_value)) }
 {
     type_in(w, q, instruction_count(w, q), value(w, q, k))
 }

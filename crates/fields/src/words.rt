@@ -1,8 +1,8 @@
 // Words of the lent array by place; a place beyond it holds 0, and a list there is empty.
 ghost use Rattle.std.specs.Prelude.{◌≡◌};
-ghost use Rattle.format.specs.Read.{value-from-words};
-ghost use Rattle.fields.specs.Shape.{value-is};
-ghost use Rattle.fields.specs.ItemsAndPlaces.{placed, word-item, value-item, behind-words, behind-values, again};
+ghost use Rattle.format.specs.Read.{value_from_words};
+ghost use Rattle.fields.specs.Shape.{value_is};
+ghost use Rattle.fields.specs.ItemsAndPlaces.{placed, word_item, value_item, behind_words, behind_values, again};
 
 use super::shape::Value;
 use reading::kinds::{BOOL_KIND, CONST_KIND, INPUT_KIND, INSTR_KIND};
@@ -22,7 +22,7 @@ pub fn place(p: usize) -> u16
 
 // Item k of a list of words: its count stands at p, its items behind it.
 pub fn word_item(w: &[u16; WORDS], p: u16, k: u16) -> u16
-    ensures { result ≡ word-item w.now p k }
+    ensures { result ≡ word_item w.now p k }
 {
     if k < word_at(w, p as usize) {
         return word_at(w, (p as usize) + 1 + (k as usize));
@@ -32,7 +32,7 @@ pub fn word_item(w: &[u16; WORDS], p: u16, k: u16) -> u16
 
 // A value by its three words: kind, region, index.
 fn value_of(kind: u16, region: u16, index: u16) -> Value
-    ensures { value-is result ≡ value-from-words kind region index }
+    ensures { value_is result ≡ value_from_words kind region index }
 {
     if kind == INPUT_KIND {
         return Value::Input(region, index);
@@ -57,7 +57,7 @@ fn value_of(kind: u16, region: u16, index: u16) -> Value
 
 // Item k of a list of values.
 pub fn value_item(w: &[u16; WORDS], p: u16, k: u16) -> Value
-    ensures { value-is result ≡ value-item w.now p k }
+    ensures { value_is result ≡ value_item w.now p k }
 {
     if k < word_at(w, p as usize) {
         let at = (p as usize) + 1 + 3 * (k as usize);
@@ -68,14 +68,14 @@ pub fn value_item(w: &[u16; WORDS], p: u16, k: u16) -> Value
 
 // The place behind a list of words.
 pub fn behind_words(w: &[u16; WORDS], p: u16) -> u16
-    ensures { result ≡ behind-words w.now p }
+    ensures { result ≡ behind_words w.now p }
 {
     place((p as usize) + 1 + (word_at(w, p as usize) as usize))
 }
 
 // The place behind a list of values.
 pub fn behind_values(w: &[u16; WORDS], p: u16) -> u16
-    ensures { result ≡ behind-values w.now p }
+    ensures { result ≡ behind_values w.now p }
 {
     place((p as usize) + 1 + 3 * (word_at(w, p as usize) as usize))
 }

@@ -46,28 +46,28 @@ concat [] = []
 concat (x ∷ xs) = x ++ concat xs
 
 -- How often a number stands in a list.
-abbrev pub times-in : ℕ → List ℕ → ℕ
-times-in a [] = 0
-times-in a (x ∷ xs) = pick (eqb a x) 1 0 + times-in a xs
+abbrev pub times_in : ℕ → List ℕ → ℕ
+times_in a [] = 0
+times_in a (x ∷ xs) = pick (eqb a x) 1 0 + times_in a xs
 
 -- The numbers from k on, one for each of a list.
-abbrev pub numbers-from : {A : Type 0} → ℕ → List A → List ℕ
-numbers-from k [] = []
-numbers-from k (x ∷ xs) = k ∷ numbers-from (suc k) xs
+abbrev pub numbers_from : {A : Type 0} → ℕ → List A → List ℕ
+numbers_from k [] = []
+numbers_from k (x ∷ xs) = k ∷ numbers_from (suc k) xs
 
-abbrev pub is-in : ℕ → List ℕ → Bool
-is-in a [] = false
-is-in a (x ∷ xs) = eqb a x || is-in a xs
+abbrev pub is_in : ℕ → List ℕ → Bool
+is_in a [] = false
+is_in a (x ∷ xs) = eqb a x || is_in a xs
 
 -- None stands twice.
 abbrev pub Distinct : List ℕ → Type 0
 Distinct [] = Unit
-Distinct (x ∷ xs) = (is-in x xs ≡ false) × Distinct xs
+Distinct (x ∷ xs) = (is_in x xs ≡ false) × Distinct xs
 
 -- The numbers that stand for the first time, in order; `seen` stood before.
 unfoldable pub distinct_from : List ℕ → List ℕ → List ℕ
 distinct_from seen [] = []
-distinct_from seen (t ∷ ts) = elim (is-in t seen) [ true ↦ distinct_from seen ts | false ↦ t ∷ distinct_from (t ∷ seen) ts ]
+distinct_from seen (t ∷ ts) = elim (is_in t seen) [ true ↦ distinct_from seen ts | false ↦ t ∷ distinct_from (t ∷ seen) ts ]
 
 -- How many come before the first standing of t.
 unfoldable pub rank : ℕ → List ℕ → ℕ

@@ -3,7 +3,7 @@ use Rattle.std.specs.Prelude.{◌≡◌, Bool, true, false, ◌||◌, List, ℕ,
 use Rattle.meaning.specs.Graph.{Value, const, input, instr, output, bool, undef, held, no_value, Instr}
 use Rattle.meaning.specs.Lists.{any, All}
 use Rattle.meaning.specs.Runs.{Node, Nodes, ⟨⟩, ◌▸◌, block, select, loop, exit, Cases, ∅, case}
-use Rattle.nesting.specs.Nesting.{LazyCond, undef-cond, false-cond, true-cond, merge, LazyConds, no-conds, ◌&◌, DeferredEdgeBundle}
+use Rattle.nesting.specs.Nesting.{LazyCond, undef_cond, false_cond, true_cond, merge, LazyConds, no_conds, ◌&◌, DeferredEdgeBundle}
 use Rattle.nesting.specs.Nesting.{DeferredEdgeBundleSet, Piece, Nested}
 
 abbrev pub marked : Value → Bool
@@ -18,27 +18,27 @@ marked no_value = false
 
 -- Whether a marked value stands in them.
 unfoldable mutual
-  pub node-marked : Node → Bool
-  node-marked (block n r k is) = any (λ i. any marked i.reads) is
-  node-marked (select x cs) = marked x.scrutinee || cases-marked cs
-  node-marked (loop x ks) = any marked x.initial-inputs || (any marked x.outputs || (marked x.repeat || nodes-marked ks))
-  node-marked (exit n op vs) = any marked vs
+  pub node_marked : Node → Bool
+  node_marked (block n r k is) = any (λ i. any marked i.reads) is
+  node_marked (select x cs) = marked x.scrutinee || cases_marked cs
+  node_marked (loop x ks) = any marked x.initial_inputs || (any marked x.outputs || (marked x.repeat || nodes_marked ks))
+  node_marked (exit n op vs) = any marked vs
 
-  pub nodes-marked : Nodes → Bool
-  nodes-marked ⟨⟩ = false
-  nodes-marked (x ▸ xs) = node-marked x || nodes-marked xs
+  pub nodes_marked : Nodes → Bool
+  nodes_marked ⟨⟩ = false
+  nodes_marked (x ▸ xs) = node_marked x || nodes_marked xs
 
-  pub cases-marked : Cases → Bool
-  cases-marked ∅ = false
-  cases-marked (case c ks cs) = any marked c.outputs || (nodes-marked ks || cases-marked cs)
+  pub cases_marked : Cases → Bool
+  cases_marked ∅ = false
+  cases_marked (case c ks cs) = any marked c.outputs || (nodes_marked ks || cases_marked cs)
 
-abbrev pub piece-marked : Piece → Bool
-piece-marked p = nodes-marked p.children || (any marked p.outputs || any (λ e. any marked e.target-inputs) p.deferred)
+abbrev pub piece_marked : Piece → Bool
+piece_marked p = nodes_marked p.children || (any marked p.outputs || any (λ e. any marked e.target_inputs) p.deferred)
 
 -- No piece of the answer has a mark.
 pub record NoMarks (n : Nested) : Type 0 where
-  pub entry : piece-marked n.entry ≡ false
-  pub unclaimed : any piece-marked n.unclaimed ≡ false
+  pub entry : piece_marked n.entry ≡ false
+  pub unclaimed : any piece_marked n.unclaimed ≡ false
 
 -- No `no_value`, and no output with a number of M or above.
 module _ (M : ℕ) where
@@ -62,7 +62,7 @@ module _ (M : ℕ) where
     pub NodeNamed : Node → Type 0
     NodeNamed (block n r k is) = InstrsNamed is
     NodeNamed (select x cs) = Named x.scrutinee × CasesNamed cs
-    NodeNamed (loop x ks) = AllNamed x.initial-inputs × AllNamed x.outputs × Named x.repeat × NodesNamed ks
+    NodeNamed (loop x ks) = AllNamed x.initial_inputs × AllNamed x.outputs × Named x.repeat × NodesNamed ks
     NodeNamed (exit n op vs) = AllNamed vs
 
     pub NodesNamed : Nodes → Type 0
@@ -75,17 +75,17 @@ module _ (M : ℕ) where
 
   unfoldable mutual
     pub CondNamed : LazyCond → Type 0
-    CondNamed undef-cond = Unit
-    CondNamed false-cond = Unit
-    CondNamed true-cond = Unit
+    CondNamed undef_cond = Unit
+    CondNamed false_cond = Unit
+    CondNamed true_cond = Unit
     CondNamed (merge n kind v cs) = Named v × CondsNamed cs
 
     pub CondsNamed : LazyConds → Type 0
-    CondsNamed no-conds = Unit
+    CondsNamed no_conds = Unit
     CondsNamed (c & cs) = CondNamed c × CondsNamed cs
 
   abbrev pub BundleNamed : DeferredEdgeBundle → Type 0
-  BundleNamed e = AllNamed e.target-inputs × CondNamed e.condition
+  BundleNamed e = AllNamed e.target_inputs × CondNamed e.condition
 
   abbrev pub SetNamed : DeferredEdgeBundleSet → Type 0
   SetNamed d = All BundleNamed d
@@ -95,5 +95,5 @@ module _ (M : ℕ) where
 
 -- No value of what is nested is `no_value` or an output out of range.
 pub record NestedNamed (n : Nested) : Type 0 where
-  pub entry : PieceNamed (length n.output-nodes) n.entry
-  pub unclaimed : All (PieceNamed (length n.output-nodes)) n.unclaimed
+  pub entry : PieceNamed (length n.output_nodes) n.entry
+  pub unclaimed : All (PieceNamed (length n.output_nodes)) n.unclaimed

@@ -1,35 +1,35 @@
 -- The figure, the sheet, and the whole answer (document 01, "What comes out", "The printed sheet").
 use Rattle.std.specs.Prelude.{List, [], ◌∷◌, ◌++◌, map, ℕ, ◌+◌, ◌*◌, max, suc, Bool, true, false, get_or, take, length, leb, eqb}
 use Prim.Native.String.{String}
-use Rattle.meaning.specs.Lists.{concat, total, times-in, pick, bit}
-use Rattle.meaning.specs.Graph.{Instr, SelectionKind, Value, const, input, instr, output, bool, undef, held, Graph, bool-cond, number}
-use Rattle.meaning.specs.Graph.{no_value, const-kind, input-kind, instr-kind, output-kind, bool-kind, undef-kind}
+use Rattle.meaning.specs.Lists.{concat, total, times_in, pick, bit}
+use Rattle.meaning.specs.Graph.{Instr, SelectionKind, Value, const, input, instr, output, bool, undef, held, Graph, bool_cond, number}
+use Rattle.meaning.specs.Graph.{no_value, const_kind, input_kind, instr_kind, output_kind, bool_kind, undef_kind}
 use Rattle.meaning.specs.Runs.{Node, block, select, loop, exit, Nodes, ⟨⟩, ◌▸◌, Cases, ∅, case}
 use Rattle.meaning.specs.Text.{Text, ascii, decimal, joined, listed}
-use Rattle.format.specs.Store.{Answer, accepted, refused, if-accepted}
+use Rattle.format.specs.Store.{Answer, accepted, refused, if_accepted}
 use Rattle.format.specs.Accept.{accept}
-use Rattle.format.specs.Refusals.{too-few-words, figure-too-large}
-use Rattle.nesting.specs.Nesting.{Outcome, LazyCond, undef-cond, false-cond, true-cond, merge, LazyConds, ◌&◌, DeferredTarget}
-use Rattle.nesting.specs.Nesting.{to-region, to-return, DeferredEdgeBundle, untouched, whole, closed, leftover, Piece, Nested}
-use Rattle.nesting.specs.Nesting.{structurize-func}
-use Rattle.nesting.specs.SheetNumbers.{kind-bool, kind-num, lead_block, lead-defer, lead-exit, lead-loop, lead-region, lead-select}
-use Rattle.nesting.specs.SheetNumbers.{letter-f, letter-m, letter-t, letter-u, outcome-closed, outcome-leftover, outcome-untouched}
-use Rattle.nesting.specs.SheetNumbers.{outcome-whole, return-word}
+use Rattle.format.specs.Refusals.{too_few_words, figure_too_large}
+use Rattle.nesting.specs.Nesting.{Outcome, LazyCond, undef_cond, false_cond, true_cond, merge, LazyConds, ◌&◌, DeferredTarget}
+use Rattle.nesting.specs.Nesting.{to_region, to_return, DeferredEdgeBundle, untouched, whole, closed, leftover, Piece, Nested}
+use Rattle.nesting.specs.Nesting.{structurize_func}
+use Rattle.nesting.specs.SheetNumbers.{kind_bool, kind_num, lead_block, lead_defer, lead_exit, lead_loop, lead_region, lead_select}
+use Rattle.nesting.specs.SheetNumbers.{letter_f, letter_m, letter_t, letter_u, outcome_closed, outcome_leftover, outcome_untouched}
+use Rattle.nesting.specs.SheetNumbers.{outcome_whole, return_word}
 
 -- ---- The figure of a nested form: what a run can cost at most (document 01, "What comes out").
-module _ (test-cost : ℕ) where
+module _ (test_cost : ℕ) where
   unfoldable mutual
     -- A block its instructions' sum; a select the test cost and its dearest case; a loop its turn limit times body and test cost.
-    pub node-figure : Node → ℕ
-    node-figure (block n r k is) = total (λ i. i.cost) is
-    node-figure (select x cs) = test-cost + dearest cs
-    node-figure (loop x ks) = x.limit * (figure ks + test-cost)
-    node-figure (exit n op vs) = 0
+    pub node_figure : Node → ℕ
+    node_figure (block n r k is) = total (λ i. i.cost) is
+    node_figure (select x cs) = test_cost + dearest cs
+    node_figure (loop x ks) = x.limit * (figure ks + test_cost)
+    node_figure (exit n op vs) = 0
 
     -- A region its children's sum.
     pub figure : Nodes → ℕ
     figure ⟨⟩ = 0
-    figure (k ▸ ks) = node-figure k + figure ks
+    figure (k ▸ ks) = node_figure k + figure ks
 
     pub dearest : Cases → ℕ
     dearest ∅ = 0
@@ -45,11 +45,11 @@ abbrev pub label : String → Field
 label s = record { words = []; text = ascii s }
 
 -- A number with a name for it in the text.
-abbrev pub number-as : ℕ → String → Field
-number-as n s = record { words = n ∷ []; text = ascii s }
+abbrev pub number_as : ℕ → String → Field
+number_as n s = record { words = n ∷ []; text = ascii s }
 
-abbrev pub a-number : ℕ → Field
-a-number n = record { words = n ∷ []; text = decimal n }
+abbrev pub a_number : ℕ → Field
+a_number n = record { words = n ∷ []; text = decimal n }
 
 -- Fields as one: their words, and their texts with `sep` between them.
 abbrev pub joint : String → List Field → Field
@@ -60,38 +60,38 @@ abbrev pub list : List Field → Field
 list fs = record { words = length fs ∷ (joint "," fs).words; text = listed (λ f. f.text) fs }
 
 abbrev pub numbers : List ℕ → Field
-numbers ns = list (map a-number ns)
+numbers ns = list (map a_number ns)
 
 -- As in 1.0: a region (or a node) and an index.
 abbrev pub dotted : ℕ → ℕ → Field
-dotted r k = joint "." (a-number r ∷ a-number k ∷ [])
+dotted r k = joint "." (a_number r ∷ a_number k ∷ [])
 
 -- An undefined value, by its type.
 abbrev pub undefined : ℕ → Field
-undefined ty = record { words = undef-kind ∷ 0 ∷ ty ∷ []; text = ascii "undef" ++ decimal ty }
+undefined ty = record { words = undef_kind ∷ 0 ∷ ty ∷ []; text = ascii "undef" ++ decimal ty }
 
 -- The kind of a select: bool 0, num 1.
 abbrev pub kind : SelectionKind → Field
-kind bool-cond = number-as kind-bool "bool"
-kind number = number-as kind-num "num"
+kind bool_cond = number_as kind_bool "bool"
+kind number = number_as kind_num "num"
 
--- The target Return prints `return` and is 65,535 as a word, which is no number of a region that is accepted (`accept-valid`).
+-- The target Return prints `return` and is 65,535 as a word, which is no number of a region that is accepted (`accept_valid`).
 abbrev pub target : DeferredTarget → Field
-target to-return = number-as return-word "return"
-target (to-region r) = pick (eqb r return-word) (number-as r "return") (a-number r)
+target to_return = number_as return_word "return"
+target (to_region r) = pick (eqb r return_word) (number_as r "return") (a_number r)
 
 unfoldable mutual
   -- A condition: t, f, u, or m, the node and its parts in brackets.
   pub condition : LazyCond → Field
-  condition true-cond = number-as letter-t "t"
-  condition false-cond = number-as letter-f "f"
-  condition undef-cond = number-as letter-u "u"
+  condition true_cond = number_as letter_t "t"
+  condition false_cond = number_as letter_f "f"
+  condition undef_cond = number_as letter_u "u"
   condition (merge n k v cs) =
       let parts = conditions cs in
-      record { words = letter-m ∷ n ∷ (list parts).words; text = ascii "m" ++ decimal n ++ ascii "[" ++ (joint "," parts).text ++ ascii "]" }
+      record { words = letter_m ∷ n ∷ (list parts).words; text = ascii "m" ++ decimal n ++ ascii "[" ++ (joint "," parts).text ++ ascii "]" }
 
   pub conditions : LazyConds → List Field
-  conditions LazyConds.no-conds = []
+  conditions LazyConds.no_conds = []
   conditions (c & cs) = condition c ∷ conditions cs
 
 -- ---- The lines of a nested form (document 01, "The printed sheet"); first the child nodes of a region line.
@@ -102,23 +102,23 @@ kids (select x cs ▸ ks) = x.number ∷ kids ks
 kids (loop x body ▸ ks) = x.number ∷ kids ks
 kids (exit n op vs ▸ ks) = n ∷ kids ks
 
-abbrev pub case-numbers : Cases → List ℕ
-case-numbers ∅ = []
-case-numbers (case c ks cs) = c.region ∷ case-numbers cs
+abbrev pub case_numbers : Cases → List ℕ
+case_numbers ∅ = []
+case_numbers (case c ks cs) = c.region ∷ case_numbers cs
 
 -- `nodes` has the node of each output ever defined, in order.
 module _ (nodes : List ℕ) where
   -- A value: kind, region, index. An output is shown as its node and its place among that node's.
   abbrev pub value : Value → Field
-  value (const i) = record { words = const-kind ∷ 0 ∷ i ∷ []; text = ascii "c" ++ decimal i }
-  value (input r k) = joint "" (number-as input-kind "i" ∷ dotted r k ∷ [])
-  value (instr r k) = joint "" (number-as instr-kind "d" ∷ dotted r k ∷ [])
-  value (output o) = let n = get_or nodes o 0 in joint "" (number-as output-kind "n" ∷ dotted n (times-in n (take o nodes)) ∷ [])
-  value (bool false) = record { words = bool-kind ∷ 0 ∷ 0 ∷ []; text = ascii "false" }
-  value (bool true) = record { words = bool-kind ∷ 0 ∷ 1 ∷ []; text = ascii "true" }
+  value (const i) = record { words = const_kind ∷ 0 ∷ i ∷ []; text = ascii "c" ++ decimal i }
+  value (input r k) = joint "" (number_as input_kind "i" ∷ dotted r k ∷ [])
+  value (instr r k) = joint "" (number_as instr_kind "d" ∷ dotted r k ∷ [])
+  value (output o) = let n = get_or nodes o 0 in joint "" (number_as output_kind "n" ∷ dotted n (times_in n (take o nodes)) ∷ [])
+  value (bool false) = record { words = bool_kind ∷ 0 ∷ 0 ∷ []; text = ascii "false" }
+  value (bool true) = record { words = bool_kind ∷ 0 ∷ 1 ∷ []; text = ascii "true" }
   value (undef ty) = undefined ty
-  value no_value = undefined 0  -- on no sheet: `nested-named`
-  value (held r k) = undefined 0  -- on no sheet: `no-marks`
+  value no_value = undefined 0  -- on no sheet: `nested_named`
+  value (held r k) = undefined 0  -- on no sheet: `no_marks`
 
   abbrev pub values : List Value → Field
   values vs = list (map value vs)
@@ -126,52 +126,52 @@ module _ (nodes : List ℕ) where
   -- The items of a block, from index k on: region.index/opcode/type/reads.
   abbrev pub items : ℕ → ℕ → List Instr → List Field
   items r k [] = []
-  items r k (i ∷ is) = joint "/" (dotted r k ∷ a-number i.opcode ∷ a-number i.type ∷ values i.reads ∷ []) ∷ items r (suc k) is
+  items r k (i ∷ is) = joint "/" (dotted r k ∷ a_number i.opcode ∷ a_number i.type ∷ values i.reads ∷ []) ∷ items r (suc k) is
 
   -- Region, inputs' types, child nodes, output values.
-  abbrev pub region-fields : ℕ → List ℕ → Nodes → List Value → List Field
-  region-fields r ts ks vs =
-      number-as lead-region "region" ∷ a-number r ∷ label "in" ∷ numbers ts
+  abbrev pub region_fields : ℕ → List ℕ → Nodes → List Value → List Field
+  region_fields r ts ks vs =
+      number_as lead_region "region" ∷ a_number r ∷ label "in" ∷ numbers ts
       ∷ label "kids" ∷ numbers (kids ks) ∷ label "out" ∷ values vs ∷ []
 
   unfoldable mutual
     -- Each child, a select's cases or a loop's body following it. Block: node, items. Select: node, kind, value, case regions,
     -- types of its outputs. Loop: node, first inputs, body region, repeat value. Exit: node, opcode, values.
     pub node_lines : Node → List (List Field)
-    node_lines (block n r k is) = (number-as lead_block "block" ∷ a-number n ∷ list (items r k is) ∷ []) ∷ []
+    node_lines (block n r k is) = (number_as lead_block "block" ∷ a_number n ∷ list (items r k is) ∷ []) ∷ []
     node_lines (select x cs) =
         let types = map (λ o. o.type) x.outputs in
-        (number-as lead-select "select" ∷ a-number x.number ∷ kind x.kind ∷ value x.scrutinee
-        ∷ label "cases" ∷ numbers (case-numbers cs) ∷ label "out" ∷ numbers types ∷ [])
-        ∷ case-lines cs
+        (number_as lead_select "select" ∷ a_number x.number ∷ kind x.kind ∷ value x.scrutinee
+        ∷ label "cases" ∷ numbers (case_numbers cs) ∷ label "out" ∷ numbers types ∷ [])
+        ∷ case_lines cs
     node_lines (loop x ks) =
-        (number-as lead-loop "loop" ∷ a-number x.number ∷ label "in" ∷ values x.initial-inputs
-        ∷ label "body" ∷ a-number x.body ∷ label "repeat" ∷ value x.repeat ∷ [])
-        ∷ region-fields x.body x.types ks x.outputs
-        ∷ nodes-lines ks
-    node_lines (exit n op vs) = (number-as lead-exit "exit" ∷ a-number n ∷ a-number op ∷ label "in" ∷ values vs ∷ []) ∷ []
+        (number_as lead_loop "loop" ∷ a_number x.number ∷ label "in" ∷ values x.initial_inputs
+        ∷ label "body" ∷ a_number x.body ∷ label "repeat" ∷ value x.repeat ∷ [])
+        ∷ region_fields x.body x.types ks x.outputs
+        ∷ nodes_lines ks
+    node_lines (exit n op vs) = (number_as lead_exit "exit" ∷ a_number n ∷ a_number op ∷ label "in" ∷ values vs ∷ []) ∷ []
 
-    pub nodes-lines : Nodes → List (List Field)
-    nodes-lines ⟨⟩ = []
-    nodes-lines (k ▸ ks) = node_lines k ++ nodes-lines ks
+    pub nodes_lines : Nodes → List (List Field)
+    nodes_lines ⟨⟩ = []
+    nodes_lines (k ▸ ks) = node_lines k ++ nodes_lines ks
 
     -- A case has no inputs.
-    pub case-lines : Cases → List (List Field)
-    case-lines ∅ = []
-    case-lines (case c ks cs) = region-fields c.region [] ks c.outputs ∷ (nodes-lines ks ++ case-lines cs)
+    pub case_lines : Cases → List (List Field)
+    case_lines ∅ = []
+    case_lines (case c ks cs) = region_fields c.region [] ks c.outputs ∷ (nodes_lines ks ++ case_lines cs)
 
-  abbrev pub piece-lines : Piece → List (List Field)
-  piece-lines p = region-fields p.region p.inputs p.children p.outputs ∷ nodes-lines p.children
+  abbrev pub piece_lines : Piece → List (List Field)
+  piece_lines p = region_fields p.region p.inputs p.children p.outputs ∷ nodes_lines p.children
 
   -- Region, target, count, inputs, condition.
-  abbrev pub defer-fields : ℕ → DeferredEdgeBundle → List Field
-  defer-fields r e =
-      number-as lead-defer "defer" ∷ a-number r ∷ label "to" ∷ target e.target ∷ label "count" ∷ a-number e.accumulated-count
-      ∷ label "in" ∷ values e.target-inputs ∷ label "if" ∷ condition e.condition ∷ []
+  abbrev pub defer_fields : ℕ → DeferredEdgeBundle → List Field
+  defer_fields r e =
+      number_as lead_defer "defer" ∷ a_number r ∷ label "to" ∷ target e.target ∷ label "count" ∷ a_number e.accumulated_count
+      ∷ label "in" ∷ values e.target_inputs ∷ label "if" ∷ condition e.condition ∷ []
 
   -- In the order of the region's set.
-  abbrev pub defer-lines : Piece → List (List Field)
-  defer-lines p = map (defer-fields p.region) p.deferred
+  abbrev pub defer_lines : Piece → List (List Field)
+  defer_lines p = map (defer_fields p.region) p.deferred
 
 -- A piece put where its region belongs among pieces with ascending regions.
 abbrev pub ascending : Piece → List Piece → List Piece
@@ -181,8 +181,8 @@ ascending p (q ∷ qs) = pick (leb p.region q.region) (p ∷ q ∷ qs) (q ∷ as
 -- The entry first, then each unclaimed Ready region, ascending; then the defer lines of all of them, ascending.
 abbrev pub lines_of : Nested → List (List Field)
 lines_of x =
-    concat (map (piece-lines x.output-nodes) (x.entry ∷ x.unclaimed))
-    ++ concat (map (defer-lines x.output-nodes) (ascending x.entry x.unclaimed))
+    concat (map (piece_lines x.output_nodes) (x.entry ∷ x.unclaimed))
+    ++ concat (map (defer_lines x.output_nodes) (ascending x.entry x.unclaimed))
 
 -- ---- The sheet (document 01, "The printed sheet"): what line 1 holds, and the other lines.
 pub record Sheet : Type 0 where
@@ -193,10 +193,10 @@ pub record Sheet : Type 0 where
   pub lines : List (List Field)
 
 -- The figure exists for whole and closed; an untouched record has line 1 only.
-unfoldable pub sheet-of : Graph → Nested → Sheet
+unfoldable pub sheet_of : Graph → Nested → Sheet
 unfolding figure node_lines condition decimal joined listed
-sheet-of g x =
-    let figured = figure g.test-cost x.entry.children in
+sheet_of g x =
+    let figured = figure g.test_cost x.entry.children in
     record {
       outcome = x.outcome;
       figure = elim x.outcome [ untouched ↦ 0 | whole ↦ figured | closed ↦ figured | leftover ↦ 0 ];
@@ -207,67 +207,67 @@ sheet-of g x =
 
 -- The outcomes, 0 to 3.
 abbrev pub outcome : Outcome → Field
-outcome untouched = number-as outcome-untouched "untouched"
-outcome whole = number-as outcome-whole "whole"
-outcome closed = number-as outcome-closed "closed"
-outcome leftover = number-as outcome-leftover "leftover"
+outcome untouched = number_as outcome_untouched "untouched"
+outcome whole = number_as outcome_whole "whole"
+outcome closed = number_as outcome_closed "closed"
+outcome leftover = number_as outcome_leftover "leftover"
 
 -- `-` if there is none, which is 0 as a word.
-abbrev pub figure-field : Outcome → ℕ → Field
-figure-field untouched n = number-as n "-"
-figure-field whole n = a-number n
-figure-field closed n = a-number n
-figure-field leftover n = number-as n "-"
+abbrev pub figure_field : Outcome → ℕ → Field
+figure_field untouched n = number_as n "-"
+figure_field whole n = a_number n
+figure_field closed n = a_number n
+figure_field leftover n = number_as n "-"
 
 -- Line 1: outcome, figure, attempts, twice.
-abbrev pub line-1 : Sheet → List Field
-line-1 s =
+abbrev pub line_1 : Sheet → List Field
+line_1 s =
     outcome s.outcome
-    ∷ label "figure" ∷ figure-field s.outcome s.figure
-    ∷ label "attempts" ∷ a-number s.attempts
-    ∷ label "twice" ∷ a-number (bit s.twice) ∷ []
+    ∷ label "figure" ∷ figure_field s.outcome s.figure
+    ∷ label "attempts" ∷ a_number s.attempts
+    ∷ label "twice" ∷ a_number (bit s.twice) ∷ []
 
 -- The sheet in the lent words, and as it is printed.
-unfoldable pub sheet-words : Sheet → List ℕ
-sheet-words s = concat (map (λ l. (joint " " l).words) (line-1 s ∷ s.lines))
+unfoldable pub sheet_words : Sheet → List ℕ
+sheet_words s = concat (map (λ l. (joint " " l).words) (line_1 s ∷ s.lines))
 
-unfoldable pub sheet-text : Sheet → Text
+unfoldable pub sheet_text : Sheet → Text
 unfolding decimal joined
-sheet-text s = concat (map (λ l. (joint " " l).text ++ ascii "\n") (line-1 s ∷ s.lines))
+sheet_text s = concat (map (λ l. (joint " " l).text ++ ascii "\n") (line_1 s ∷ s.lines))
 
 -- ---- From the bytes of a store to the whole answer: a refusal, or the sheet in the lent words and in print (document 01).
 -- Refusal 11: the figure exceeds 4,294,967,295.
-abbrev pub figure-fits : Sheet → Answer Sheet
-figure-fits s = elim (leb s.figure 4294967295) [ true ↦ accepted s | false ↦ refused figure-too-large 0 ]
+abbrev pub figure_fits : Sheet → Answer Sheet
+figure_fits s = elim (leb s.figure 4294967295) [ true ↦ accepted s | false ↦ refused figure_too_large 0 ]
 
 -- Store, reading, references, nesting, figure: the sheet, or a refusal other than 10.
-unfoldable pub sheet-for : List ℕ → Answer Sheet
-unfolding accept structurize-func sheet-of
-sheet-for store =
-    if-accepted (accept store) λ g.
-    if-accepted (structurize-func g) λ x.
-    figure-fits (sheet-of g x)
+unfoldable pub sheet_for : List ℕ → Answer Sheet
+unfolding accept structurize_func sheet_of
+sheet_for store =
+    if_accepted (accept store) λ g.
+    if_accepted (structurize_func g) λ x.
+    figure_fits (sheet_of g x)
 
 -- Refusal 10: the lent words are too few.
-abbrev pub words-fit : ℕ → Sheet → Answer Sheet
-words-fit lent s = elim (leb (length (sheet-words s)) lent) [ true ↦ accepted s | false ↦ refused too-few-words 0 ]
+abbrev pub words_fit : ℕ → Sheet → Answer Sheet
+words_fit lent s = elim (leb (length (sheet_words s)) lent) [ true ↦ accepted s | false ↦ refused too_few_words 0 ]
 
 unfoldable pub answer : List ℕ → ℕ → Answer Sheet
-unfolding sheet-for sheet-words
-answer store lent = if-accepted (sheet-for store) (words-fit lent)
+unfolding sheet_for sheet_words
+answer store lent = if_accepted (sheet_for store) (words_fit lent)
 
 -- The words of the sheet, which the lent words then begin with.
-unfoldable pub answer-words : List ℕ → ℕ → Answer (List ℕ)
+unfoldable pub answer_words : List ℕ → ℕ → Answer (List ℕ)
 unfolding answer
-answer-words store lent = if-accepted (answer store lent) λ s. accepted (sheet-words s)
+answer_words store lent = if_accepted (answer store lent) λ s. accepted (sheet_words s)
 
 -- A refusal prints one line: `refused`, the number and its word.
-unfoldable pub answer-text : Answer Sheet → Text
-unfolding sheet-text
-answer-text (refused n w) = joined (ascii " ") (ascii "refused" ∷ decimal n ∷ decimal w ∷ []) ++ ascii "\n"
-answer-text (accepted s) = sheet-text s
+unfoldable pub answer_text : Answer Sheet → Text
+unfolding sheet_text
+answer_text (refused n w) = joined (ascii " ") (ascii "refused" ∷ decimal n ∷ decimal w ∷ []) ++ ascii "\n"
+answer_text (accepted s) = sheet_text s
 
 -- What the program prints for the bytes of standard input: it lends 16,384 words.
 unfoldable pub printed : List ℕ → Text
-unfolding answer answer-text
-printed store = answer-text (answer store 16384)
+unfolding answer answer_text
+printed store = answer_text (answer store 16384)

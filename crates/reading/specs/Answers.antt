@@ -1,7 +1,7 @@
 -- What the readers answer, by the definitions (format's Read).
 use Rattle.std.specs.Prelude.{List, ℕ, take}
 use Rattle.format.specs.Read.{Read, got, bad, Reader}
-use Rattle.format.specs.Places.{forget-value}
+use Rattle.format.specs.Places.{forget_value}
 use Rattle.reading.specs.declared.words.Cursor.{Cursor}
 use Rattle.reading.specs.declared.words.Item.{Item}
 use Rattle.reading.specs.declared.words.Item.TheVariants as item
@@ -19,9 +19,9 @@ step_from end (got u at) = step.At (record { at = at; end = end })
 step_from end (bad m) = step.Bad m
 
 -- A reading of the lent words from a cursor on.
-unfoldable pub item-at : Reader ℕ → List ℕ → Cursor → Item
-item-at p w c = item_from c.end (p (take c.end w) c.at)
+unfoldable pub item_at : Reader ℕ → List ℕ → Cursor → Item
+item_at p w c = item_from c.end (p (take c.end w) c.at)
 
 -- The same with the value forgotten.
-unfoldable pub step-at : {A : Type 0} → Reader A → List ℕ → Cursor → Step
-step-at p w c = step_from c.end (forget-value (p (take c.end w) c.at))
+unfoldable pub step_at : {A : Type 0} → Reader A → List ℕ → Cursor → Step
+step_at p w c = step_from c.end (forget_value (p (take c.end w) c.at))

@@ -1,8 +1,8 @@
 // Terminators: kind, opcode, values, targets, and the values passed to each distinct target.
 ghost use Rattle.std.specs.Prelude.{◌≡◌, ℕ, ◌+◌, ◌<◌};
 ghost use Rattle.format.specs.Read as read;
-ghost use Rattle.reading.specs.Answers.{step-at};
-ghost use Rattle.reading.specs.Readings.{first, firsts, edges-lists, operands-read};
+ghost use Rattle.reading.specs.Answers.{step_at};
+ghost use Rattle.reading.specs.Readings.{first, firsts, edges_lists, operands_read};
 
 use crate::kinds::{
     TERMINATOR_BOOL, TERMINATOR_BRANCH, TERMINATOR_EXIT, TERMINATOR_NUMBER, TERMINATOR_RETURN,
@@ -15,7 +15,7 @@ use store::{WORDS, tells_length};
 
 // How many values and targets a terminator of kind k has, at least and at most.
 fn fewest_values(k: u16) -> u16
-    ensures { result ≡ read.fewest-values k }
+    ensures { result ≡ read.fewest_values k }
 {
     if TERMINATOR_BOOL <= k {
         return 1;
@@ -39,7 +39,7 @@ fn most_values(k: u16) -> u16
 }
 
 fn fewest_targets(k: u16) -> u16
-    ensures { result ≡ read.fewest-targets k }
+    ensures { result ≡ read.fewest_targets k }
 {
     if k == TERMINATOR_BOOL {
         return 2;
@@ -51,7 +51,7 @@ fn fewest_targets(k: u16) -> u16
 }
 
 fn most_targets(k: u16) -> u16
-    ensures { result ≡ read.most-targets k }
+    ensures { result ≡ read.most_targets k }
 {
     if k == TERMINATOR_NUMBER {
         return 8;
@@ -67,7 +67,7 @@ fn most_targets(k: u16) -> u16
 
 // The opcode word stands for ExitInvocation only.
 fn opcode_for(w: &[u16; WORDS], c: Cursor, k: u16) -> Step
-    ensures { result ≡ step-at (read.opcode-for k) w.now c }
+    ensures { result ≡ step_at (read.opcode_for k) w.now c }
 {
     if k == TERMINATOR_EXIT {
         return words(w, c, 1);
@@ -103,7 +103,7 @@ fn distinct(w: &[u16; WORDS], from: usize, n: u16) -> u16
 
 // n lists of passed values
 fn passes(w: &[u16; WORDS], from: Cursor, n: u16) -> Step
-    ensures { result ≡ step-at (read.many n (read.counted 0 4 read.read-value)) w.now from }
+    ensures { result ≡ step_at (read.many n (read.counted 0 4 read.read_value)) w.now from }
 {
     let mut i: u16 = 0;
     let mut c = from;
@@ -121,7 +121,7 @@ fn passes(w: &[u16; WORDS], from: Cursor, n: u16) -> Step
 
 // n targets and what is passed to them
 fn edges(w: &[u16; WORDS], c: Cursor, n: u16) -> Step
-    ensures { result ≡ step-at (edges-lists n) w.now c }
+    ensures { result ≡ step_at (edges_lists n) w.now c }
 {
     tells_length(w);
     match words(w, c, n) {
@@ -136,7 +136,7 @@ fn edges(w: &[u16; WORDS], c: Cursor, n: u16) -> Step
 
 // What stands after the opcode of a terminator of kind k.
 fn operands(w: &[u16; WORDS], c: Cursor, k: u16) -> Step
-    ensures { result ≡ step-at (operands-read k) w.now c }
+    ensures { result ≡ step_at (operands_read k) w.now c }
 {
     let low = fewest_values(k);
     let high = most_values(k);
@@ -154,7 +154,7 @@ fn operands(w: &[u16; WORDS], c: Cursor, k: u16) -> Step
 }
 
 pub fn terminator(w: &[u16; WORDS], c: Cursor) -> Step
-    ensures { result ≡ step-at read.terminator w.now c }
+    ensures { result ≡ step_at read.terminator w.now c }
 {
     match within(w, c, TERMINATOR_UNREACHABLE, TERMINATOR_NUMBER) {
         Item::Bad(m) => Step::Bad(m),

@@ -1,7 +1,7 @@
 // Values, instructions and blocks.
 ghost use Rattle.std.specs.Prelude.{◌≡◌};
 ghost use Rattle.format.specs.Read as read;
-ghost use Rattle.reading.specs.Answers.{step-at};
+ghost use Rattle.reading.specs.Answers.{step_at};
 ghost use Rattle.reading.specs.Readings.{named_by};
 
 use crate::kinds::{BOOL_KIND, INSTR_KIND, UNDEF_KIND};
@@ -11,7 +11,7 @@ use store::refusals::OUT_OF_RANGE;
 
 // Whether a record may have kind k: the output of a node arises only in nesting.
 fn is_kind(k: u16) -> bool
-    ensures { result ≡ read.is-kind k }
+    ensures { result ≡ read.is_kind k }
 {
     if k <= INSTR_KIND {
         return true;
@@ -24,7 +24,7 @@ fn is_kind(k: u16) -> bool
 
 // Whether i can be the index of a value of kind k: of an undefined value it is the type.
 fn index_right(k: u16, i: u16) -> bool
-    ensures { result ≡ read.index-right k i }
+    ensures { result ≡ read.index_right k i }
 {
     if k == UNDEF_KIND {
         if i < 1 {
@@ -37,7 +37,7 @@ fn index_right(k: u16, i: u16) -> bool
 
 // The region and the index of a value of kind k.
 fn named(w: &[u16; WORDS], c: Cursor, k: u16) -> Step
-    ensures { result ≡ step-at (named_by k) w.now c }
+    ensures { result ≡ step_at (named_by k) w.now c }
 {
     match word(w, c) {
         Item::Bad(m) => Step::Bad(m),
@@ -54,7 +54,7 @@ fn named(w: &[u16; WORDS], c: Cursor, k: u16) -> Step
 }
 
 pub fn value(w: &[u16; WORDS], c: Cursor) -> Step
-    ensures { result ≡ step-at read.read-value w.now c }
+    ensures { result ≡ step_at read.read_value w.now c }
 {
     match word(w, c) {
         Item::Bad(m) => Step::Bad(m),
@@ -69,7 +69,7 @@ pub fn value(w: &[u16; WORDS], c: Cursor) -> Step
 
 // n values
 pub fn values(w: &[u16; WORDS], from: Cursor, n: u16) -> Step
-    ensures { result ≡ step-at (read.many n read.read-value) w.now from }
+    ensures { result ≡ step_at (read.many n read.read_value) w.now from }
 {
     let mut i: u16 = 0;
     let mut c = from;
@@ -86,7 +86,7 @@ pub fn values(w: &[u16; WORDS], from: Cursor, n: u16) -> Step
 }
 
 pub fn counted_values(w: &[u16; WORDS], c: Cursor, low: u16, high: u16) -> Step
-    ensures { result ≡ step-at (read.counted low high read.read-value) w.now c }
+    ensures { result ≡ step_at (read.counted low high read.read_value) w.now c }
 {
     match within(w, c, low, high) {
         Item::Bad(m) => Step::Bad(m),
@@ -95,7 +95,7 @@ pub fn counted_values(w: &[u16; WORDS], c: Cursor, low: u16, high: u16) -> Step
 }
 
 pub fn instruction(w: &[u16; WORDS], c: Cursor) -> Step
-    ensures { result ≡ step-at read.instruction w.now c }
+    ensures { result ≡ step_at read.instruction w.now c }
 {
     match word(w, c) {
         Item::Bad(m) => Step::Bad(m),
@@ -111,7 +111,7 @@ pub fn instruction(w: &[u16; WORDS], c: Cursor) -> Step
 
 // n instructions
 fn instructions(w: &[u16; WORDS], from: Cursor, n: u16) -> Step
-    ensures { result ≡ step-at (read.many n read.instruction) w.now from }
+    ensures { result ≡ step_at (read.many n read.instruction) w.now from }
 {
     let mut i: u16 = 0;
     let mut c = from;
@@ -128,7 +128,7 @@ fn instructions(w: &[u16; WORDS], from: Cursor, n: u16) -> Step
 }
 
 pub fn block(w: &[u16; WORDS], c: Cursor) -> Step
-    ensures { result ≡ step-at read.block w.now c }
+    ensures { result ≡ step_at read.block w.now c }
 {
     match within(w, c, 1, 8) {
         Item::Bad(m) => Step::Bad(m),

@@ -1,7 +1,7 @@
 // Words, words within bounds, and lists of them.
 ghost use Rattle.std.specs.Prelude.{◌≡◌, ℕ, ◌+◌, ◌<◌};
 ghost use Rattle.format.specs.Read as read;
-ghost use Rattle.reading.specs.Answers.{item-at, step-at};
+ghost use Rattle.reading.specs.Answers.{item_at, step_at};
 ghost use Rattle.reading.specs.Readings.{stands};
 
 use store::layout::word_at;
@@ -31,7 +31,7 @@ pub enum Step {
 
 // No word stands past the end, nor past the array.
 pub fn word(w: &[u16; WORDS], c: Cursor) -> Item
-    ensures { result ≡ item-at read.word w.now c }
+    ensures { result ≡ item_at read.word w.now c }
 {
     tells_length(w);
     let at = c.at;
@@ -46,7 +46,7 @@ pub fn word(w: &[u16; WORDS], c: Cursor) -> Item
 }
 
 pub fn within(w: &[u16; WORDS], c: Cursor, low: u16, high: u16) -> Item
-    ensures { result ≡ item-at (read.within low high) w.now c }
+    ensures { result ≡ item_at (read.within low high) w.now c }
 {
     match word(w, c) {
         Item::Bad(m) => Item::Bad(m),
@@ -64,7 +64,7 @@ pub fn within(w: &[u16; WORDS], c: Cursor, low: u16, high: u16) -> Item
 
 // n words
 pub fn words(w: &[u16; WORDS], from: Cursor, n: u16) -> Step
-    ensures { result ≡ step-at (read.many n read.word) w.now from }
+    ensures { result ≡ step_at (read.many n read.word) w.now from }
 {
     let mut i: u16 = 0;
     let mut c = from;
@@ -82,7 +82,7 @@ pub fn words(w: &[u16; WORDS], from: Cursor, n: u16) -> Step
 
 // n types
 pub fn types(w: &[u16; WORDS], from: Cursor, n: u16) -> Step
-    ensures { result ≡ step-at (read.many n read.type) w.now from }
+    ensures { result ≡ step_at (read.many n read.type) w.now from }
 {
     let mut i: u16 = 0;
     let mut c = from;
@@ -99,7 +99,7 @@ pub fn types(w: &[u16; WORDS], from: Cursor, n: u16) -> Step
 }
 
 pub fn counted_words(w: &[u16; WORDS], c: Cursor, low: u16, high: u16) -> Step
-    ensures { result ≡ step-at (read.counted low high read.word) w.now c }
+    ensures { result ≡ step_at (read.counted low high read.word) w.now c }
 {
     match within(w, c, low, high) {
         Item::Bad(m) => Step::Bad(m),
@@ -108,7 +108,7 @@ pub fn counted_words(w: &[u16; WORDS], c: Cursor, low: u16, high: u16) -> Step
 }
 
 pub fn counted_types(w: &[u16; WORDS], c: Cursor, high: u16) -> Step
-    ensures { result ≡ step-at (read.counted 0 high read.type) w.now c }
+    ensures { result ≡ step_at (read.counted 0 high read.type) w.now c }
 {
     match within(w, c, 0, high) {
         Item::Bad(m) => Step::Bad(m),

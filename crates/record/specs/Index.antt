@@ -2,9 +2,9 @@
 use Rattle.std.specs.Prelude.{◌≡◌, List, ℕ, zero, suc, ◌+◌, ◌≤◌, ◌<◌, length, get_or, take}
 use Rattle.meaning.specs.Graph.{Region}
 use Rattle.format.specs.Store.{accepted}
-use Rattle.format.specs.Read.{read-region, regions-from}
-use Rattle.format.specs.Places.{after, blocks-of-region, block-of-region, limit-of-region, exits-of-region}
-use Rattle.store.specs.Layout.{start_word, limit-word, exits-word, blocks-word, index_at}
+use Rattle.format.specs.Read.{read_region, regions_from}
+use Rattle.format.specs.Places.{after, blocks_of_region, block_of_region, limit_of_region, exits_of_region}
+use Rattle.store.specs.Layout.{start_word, limit_word, exits_word, blocks_word, index_at}
 use Rattle.store.specs.Loaded.{answered}
 use Rattle.store.specs.declared.Verdict.{Verdict}
 use Rattle.record.specs.Outcome.{forget, RestKept}
@@ -17,7 +17,7 @@ pub record Row (old new : List ℕ) (at n : ℕ) (f : ℕ → ℕ) : Type 0 wher
   pub above : (k : ℕ) → at + n ≤ k → get_or new k 0 ≡ get_or old k 0
   pub row : (k : ℕ) → k < n → get_or new (at + k) 0 ≡ f k
 
--- The row of the index for a region that begins at a place: by `start_word`, `limit-word`, `exits-word`, `blocks-word`.
+-- The row of the index for a region that begins at a place: by `start_word`, `limit_word`, `exits_word`, `blocks_word`.
 unfoldable pub row_of : ℕ → RegionPlaces → ℕ → ℕ
 row_of start x zero = start
 row_of start x (suc zero) = x.limit
@@ -26,15 +26,15 @@ row_of start x (suc (suc (suc b))) = get_or x.blocks b 0
 
 -- The index of region r, of regions that begin at a place.
 pub record IndexedFrom (ws : List ℕ) (from : ℕ) (w : List ℕ) (r : ℕ) : Type 0 where
-  pub start : get_or w (index_at r + start_word) 0 ≡ after r read-region ws from
-  pub limit : get_or w (index_at r + limit-word) 0 ≡ limit-of-region ws (after r read-region ws from)
-  pub exits : get_or w (index_at r + exits-word) 0 ≡ exits-of-region ws (after r read-region ws from)
-  pub block : (b : ℕ) → b < 8 → b < get_or ws (blocks-of-region ws (after r read-region ws from)) 0
-      → get_or w (index_at r + blocks-word + b) 0 ≡ block-of-region ws (after r read-region ws from) b
+  pub start : get_or w (index_at r + start_word) 0 ≡ after r read_region ws from
+  pub limit : get_or w (index_at r + limit_word) 0 ≡ limit_of_region ws (after r read_region ws from)
+  pub exits : get_or w (index_at r + exits_word) 0 ≡ exits_of_region ws (after r read_region ws from)
+  pub block : (b : ℕ) → b < 8 → b < get_or ws (blocks_of_region ws (after r read_region ws from)) 0
+      → get_or w (index_at r + blocks_word + b) 0 ≡ block_of_region ws (after r read_region ws from) b
 
 -- n regions from a place on.
 pub record RegionsOutcome (n count from : ℕ) (old new : List ℕ) (a : Verdict) : Type 0 where
-  pub answer : answered a ≡ forget (regions-from n 0 (take count old) from)
-  pub index : (rs : List Region) → regions-from n 0 (take count old) from ≡ accepted rs → (r : ℕ) → r < n
+  pub answer : answered a ≡ forget (regions_from n 0 (take count old) from)
+  pub index : (rs : List Region) → regions_from n 0 (take count old) from ≡ accepted rs → (r : ℕ) → r < n
       → IndexedFrom (take count old) from new r
   pub kept : RestKept old new

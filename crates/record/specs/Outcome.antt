@@ -2,12 +2,12 @@
 use Rattle.std.specs.Prelude.{◌≡◌, List, ℕ, length, get_or, take, drop, leb}
 use Rattle.meaning.specs.Graph.{Graph}
 use Rattle.format.specs.Store.{Answer, accepted, refused}
-use Rattle.format.specs.Read.{read-record}
-use Rattle.format.specs.Refusals.{wrong-word-count}
-use Rattle.store.specs.Layout.{record-end, index-end}
+use Rattle.format.specs.Read.{read_record}
+use Rattle.format.specs.Refusals.{wrong_word_count}
+use Rattle.store.specs.Layout.{record_end, index_end}
 use Rattle.store.specs.Loaded.{answered}
 use Rattle.store.specs.declared.Verdict.{Verdict}
-use Rattle.record.specs.Stands.{words-of-record, Stands}
+use Rattle.record.specs.Stands.{words_of_record, Stands}
 use Rattle.meaning.specs.Lists.{pick}
 
 -- An answer with what was taken forgotten.
@@ -18,15 +18,15 @@ forget (refused n w) = refused n w
 -- Only the index may have changed.
 pub record RestKept (old new : List ℕ) : Type 0 where
   pub size : length new ≡ length old
-  pub front : take record-end new ≡ take record-end old
-  pub back : drop index-end new ≡ drop index-end old
+  pub front : take record_end new ≡ take record_end old
+  pub back : drop index_end new ≡ drop index_end old
 
 -- The record in front of the words: word 0 says how many words it has, and no record has more than the longest.
-abbrev pub record-in : List ℕ → Answer Graph
-record-in w = pick (leb (get_or w 0 0) record-end) (read-record (words-of-record w)) (refused wrong-word-count 0)
+abbrev pub record_in : List ℕ → Answer Graph
+record_in w = pick (leb (get_or w 0 0) record_end) (read_record (words_of_record w)) (refused wrong_word_count 0)
 
 -- `old` are the lent words as they are read, `new` as they are handed back.
 pub record ReadOutcome (old new : List ℕ) (a : Verdict) : Type 0 where
-  pub answer : answered a ≡ forget (record-in old)
-  pub stands : (g : Graph) → record-in old ≡ accepted g → Stands new g
+  pub answer : answered a ≡ forget (record_in old)
+  pub stands : (g : Graph) → record_in old ≡ accepted g → Stands new g
   pub kept : RestKept old new

@@ -1,6 +1,6 @@
 // The index of a record's regions: a row of words for each, behind the longest record.
 ghost use Rattle.std.specs.Prelude.{◌+◌, ◌≤◌, ◌<◌, get_or};
-ghost use Rattle.store.specs.Layout.{row_words, index_at, index-end};
+ghost use Rattle.store.specs.Layout.{row_words, index_at, index_end};
 ghost use Rattle.record.specs.Index.{Row, row_of};
 
 use crate::regions::RegionPlaces;
@@ -8,7 +8,7 @@ use store::layout::{BLOCK_PLACES, EXITS, LIMIT, RECORD_END, ROW, START};
 use store::{WORDS, tells_length};
 
 fn store_blocks(w: &mut [u16; WORDS], at: usize, places: [u16; 8])
-    requires { at + 8 ≤ index-end }
+    requires { at + 8 ≤ index_end }
     ensures { Row w.old w.new at 8 (λ k. get_or places k 0) }
 {
     tells_length(w);

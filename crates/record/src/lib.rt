@@ -4,10 +4,10 @@ pub mod regions;
 
 ghost use Rattle.std.specs.Prelude.{◌≡◌, ◌≤◌};
 ghost use Rattle.format.specs.Store.{refused};
-ghost use Rattle.format.specs.Read.{word-for};
-ghost use Rattle.format.specs.Refusals.{wrong-word-count, out_of_range};
+ghost use Rattle.format.specs.Read.{word_for};
+ghost use Rattle.format.specs.Refusals.{wrong_word_count, out_of_range};
 ghost use Rattle.meaning.specs.Lists.{Within};
-ghost use Rattle.store.specs.Layout.{record-end};
+ghost use Rattle.store.specs.Layout.{record_end};
 ghost use Rattle.store.specs.Loaded.{answered};
 ghost use Rattle.record.specs.Outcome.{ReadOutcome};
 ghost use Rattle.record.specs.Index.{RegionsOutcome};
@@ -21,8 +21,8 @@ use store::{Refusal, Verdict, WORDS, tells_length};
 
 // The refusal of a number that reading answers, in region r.
 fn refusal(n: u16, r: u16) -> Verdict
-    requires { Within wrong-word-count out_of_range n }
-    ensures { answered result ≡ refused n (word-for n r) }
+    requires { Within wrong_word_count out_of_range n }
+    ensures { answered result ≡ refused n (word_for n r) }
 {
     if n == OUT_OF_RANGE {
         return Verdict::Refused(Refusal::OutOfRange(r));
@@ -32,7 +32,7 @@ fn refusal(n: u16, r: u16) -> Verdict
 
 // n regions from a cursor on; no words may stay over.
 fn read_regions(w: &mut [u16; WORDS], from: Cursor, n: u16) -> Verdict
-    requires { (from.end ≤ record-end) × (n ≤ 32) }
+    requires { (from.end ≤ record_end) × (n ≤ 32) }
     ensures { RegionsOutcome n from.end from.at w.old w.new result }
 {
     tells_length(w);

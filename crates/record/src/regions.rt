@@ -1,8 +1,8 @@
 // Regions and the head of a record.
 ghost use Rattle.std.specs.Prelude.{◌≡◌, ◌≤◌};
-ghost use Rattle.reading.specs.Answers.{item-at, step-at};
+ghost use Rattle.reading.specs.Answers.{item_at, step_at};
 ghost use Rattle.record.specs.Answers.{BlocksRead, CountedBlocks, EndingRead, RegionPlacesRead};
-ghost use Rattle.record.specs.Readings.{after-count, head-count};
+ghost use Rattle.record.specs.Readings.{after_count, head_count};
 
 use reading::terminators::terminator;
 use reading::values::block;
@@ -123,7 +123,7 @@ pub fn read_region(w: &[u16; WORDS], c: Cursor) -> RegionPlaces
 
 // Entry, test cost, and the types of the constants.
 fn after_count(w: &[u16; WORDS], c: Cursor) -> Step
-    ensures { result ≡ step-at after-count w.now c }
+    ensures { result ≡ step_at after_count w.now c }
 {
     match word(w, c) {
         Item::Bad(m) => Step::Bad(m),
@@ -136,7 +136,7 @@ fn after_count(w: &[u16; WORDS], c: Cursor) -> Step
 
 // The region count and the cursor at the first region.
 pub fn read_head(w: &[u16; WORDS], c: Cursor) -> Item
-    ensures { result ≡ item-at head-count w.now c }
+    ensures { result ≡ item_at head_count w.now c }
 {
     match within(w, c, 1, 32) {
         Item::Bad(m) => Item::Bad(m),

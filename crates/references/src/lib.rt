@@ -1,18 +1,18 @@
 // References in record order: refusals 6, 7 and 8 (document 01, "What turns a record away").
 ghost use Rattle.std.specs.Prelude.{◌≡◌, [], ◌≤◌};
-ghost use Rattle.meaning.specs.Graph.{region, edges-of};
+ghost use Rattle.meaning.specs.Graph.{region, edges_of};
 ghost use Rattle.format.specs.References as format;
 ghost use Rattle.store.specs.Loaded.{answered};
 ghost use Rattle.record.specs.Stands.{OfRecord};
-ghost use Rattle.fields.specs.ByNumber.{block_of, instr-of, end-values, edge_of};
-ghost use Rattle.fields.specs.Shape.{value-is};
-ghost use Rattle.references.specs.Checks.{typed, first-right};
+ghost use Rattle.fields.specs.ByNumber.{block_of, instr_of, end_values, edge_of};
+ghost use Rattle.fields.specs.Shape.{value_is};
+ghost use Rattle.references.specs.Checks.{typed, first_right};
 
 use fields::{Terminator, Value};
 use store::{Refusal, Verdict, WORDS};
 
 fn named_right(w: &[u16; WORDS], r: u16, before: usize, v: Value) -> Verdict
-    ensures { OfRecord w.now (λ g. answered result ≡ format.named-right g r before (value-is v)) }
+    ensures { OfRecord w.now (λ g. answered result ≡ format.named_right g r before (value_is v)) }
 {
     if fields::type_in(w, r, before, v) == 0 {
         return Verdict::Refused(Refusal::WrongReference(r));
@@ -22,7 +22,7 @@ fn named_right(w: &[u16; WORDS], r: u16, before: usize, v: Value) -> Verdict
 
 // A value behind all instructions of region r: named, and of type t.
 fn named_of_type(w: &[u16; WORDS], r: u16, t: u16, v: Value) -> Verdict
-    ensures { OfRecord w.now (λ g. answered result ≡ typed g r t (value-is v)) }
+    ensures { OfRecord w.now (λ g. answered result ≡ typed g r t (value_is v)) }
 {
     let found = fields::type_in(w, r, fields::instruction_count(w, r), v);
     if found == 0 {
@@ -37,7 +37,7 @@ fn named_of_type(w: &[u16; WORDS], r: u16, t: u16, v: Value) -> Verdict
 // Each read of instruction i of block b, which stands behind `before` instructions of the region.
 fn instruction_reads_right(w: &[u16; WORDS], r: u16, b: u16, i: u16, before: usize) -> Verdict
     ensures { OfRecord w.now (λ g.
-        answered result ≡ format.first-refusal (format.named-right g r before) (instr-of g r b i).reads) }
+        answered result ≡ format.first_refusal (format.named_right g r before) (instr_of g r b i).reads) }
 {
     let x = fields::instruction(w, r, b, i);
     let n = x.reads;
@@ -54,7 +54,7 @@ fn instruction_reads_right(w: &[u16; WORDS], r: u16, b: u16, i: u16, before: usi
 
 fn block_reads_right(w: &[u16; WORDS], r: u16, b: u16, before: usize) -> Verdict
     requires { before ≤ 4294836225 }
-    ensures { OfRecord w.now (λ g. answered result ≡ format.reads-right g r before (block_of g r b)) }
+    ensures { OfRecord w.now (λ g. answered result ≡ format.reads_right g r before (block_of g r b)) }
 {
     let n = fields::block_length(w, r, b);
     let mut i: u16 = 0;
@@ -69,7 +69,7 @@ fn block_reads_right(w: &[u16; WORDS], r: u16, b: u16, before: usize) -> Verdict
 }
 
 fn reads_right(w: &[u16; WORDS], r: u16) -> Verdict
-    ensures { OfRecord w.now (λ g. answered result ≡ format.reads-right g r 0 (format.instructions (region g r).blocks)) }
+    ensures { OfRecord w.now (λ g. answered result ≡ format.reads_right g r 0 (format.instructions (region g r).blocks)) }
 {
     let n = fields::block_count(w, r);
     let mut before: usize = 0;
@@ -87,7 +87,7 @@ fn reads_right(w: &[u16; WORDS], r: u16) -> Verdict
 
 // What region r returns has the types of what the first Return region returns.
 fn returned_right(w: &[u16; WORDS], r: u16) -> Verdict
-    ensures { OfRecord w.now (λ g. answered result ≡ format.passed-right g r (format.return-types g) (end-values g r)) }
+    ensures { OfRecord w.now (λ g. answered result ≡ format.passed_right g r (format.return_types g) (end_values g r)) }
 {
     let q = fields::first_return(w);
     let n = fields::value_count(w, r);
@@ -108,7 +108,7 @@ fn returned_right(w: &[u16; WORDS], r: u16) -> Verdict
 // Each value that ExitInvocation names.
 fn exit_values_right(w: &[u16; WORDS], r: u16) -> Verdict
     ensures { OfRecord w.now (λ g.
-        answered result ≡ format.first-refusal (format.named-right g r (format.behind-all g r)) (end-values g r)) }
+        answered result ≡ format.first_refusal (format.named_right g r (format.behind_all g r)) (end_values g r)) }
 {
     let before = fields::instruction_count(w, r);
     let n = fields::value_count(w, r);
@@ -124,7 +124,7 @@ fn exit_values_right(w: &[u16; WORDS], r: u16) -> Verdict
 }
 
 fn values_right(w: &[u16; WORDS], r: u16) -> Verdict
-    ensures { OfRecord w.now (λ g. answered result ≡ format.values-right g r (region g r).terminator) }
+    ensures { OfRecord w.now (λ g. answered result ≡ format.values_right g r (region g r).terminator) }
 {
     let t = fields::terminator(w, r);
     match t {
@@ -144,7 +144,7 @@ fn values_right(w: &[u16; WORDS], r: u16) -> Verdict
 
 fn targets_right(w: &[u16; WORDS], r: u16) -> Verdict
     ensures { OfRecord w.now (λ g.
-        answered result ≡ format.first-refusal (format.target_right g r) (edges-of (region g r).terminator)) }
+        answered result ≡ format.first_refusal (format.target_right g r) (edges_of (region g r).terminator)) }
 {
     let count = fields::region_count(w);
     let n = fields::target_count(w, r);
@@ -160,7 +160,7 @@ fn targets_right(w: &[u16; WORDS], r: u16) -> Verdict
 
 // Values for the inputs of the target at place j: as many, then each named, and of its type.
 fn passed_right(w: &[u16; WORDS], r: u16, j: u16) -> Verdict
-    ensures { OfRecord w.now (λ g. answered result ≡ format.edge-right g r (edge_of g r j)) }
+    ensures { OfRecord w.now (λ g. answered result ≡ format.edge_right g r (edge_of g r j)) }
 {
     let t = fields::target(w, r, j);
     let n = fields::passed_count(w, r, j);
@@ -185,7 +185,7 @@ fn passed_right(w: &[u16; WORDS], r: u16, j: u16) -> Verdict
 
 // The values for the target at place j, where it stands for the first time.
 fn edge_right(w: &[u16; WORDS], r: u16, j: u16) -> Verdict
-    ensures { OfRecord w.now (λ g. answered result ≡ first-right g r (edges-of (region g r).terminator) j) }
+    ensures { OfRecord w.now (λ g. answered result ≡ first_right g r (edges_of (region g r).terminator) j) }
 {
     if fields::target_again(w, r, j) {
         return Verdict::Right;
@@ -196,7 +196,7 @@ fn edge_right(w: &[u16; WORDS], r: u16, j: u16) -> Verdict
 // The values passed to each distinct target.
 fn edges_right(w: &[u16; WORDS], r: u16) -> Verdict
     ensures { OfRecord w.now (λ g.
-        answered result ≡ format.first-refusal (format.edge-right g r) (format.first-edges [] (edges-of (region g r).terminator))) }
+        answered result ≡ format.first_refusal (format.edge_right g r) (format.first_edges [] (edges_of (region g r).terminator))) }
 {
     let n = fields::target_count(w, r);
     let mut j: u16 = 0;
@@ -212,7 +212,7 @@ fn edges_right(w: &[u16; WORDS], r: u16) -> Verdict
 
 // Each exit is a region, and none stands twice.
 fn exits_right(w: &[u16; WORDS], r: u16) -> Verdict
-    ensures { OfRecord w.now (λ g. answered result ≡ format.exits-right g r [] (region g r).exits) }
+    ensures { OfRecord w.now (λ g. answered result ≡ format.exits_right g r [] (region g r).exits) }
 {
     let count = fields::region_count(w);
     let n = fields::exit_count(w, r);
@@ -230,7 +230,7 @@ fn exits_right(w: &[u16; WORDS], r: u16) -> Verdict
 }
 
 fn region_right(w: &[u16; WORDS], r: u16) -> Verdict
-    ensures { OfRecord w.now (λ g. answered result ≡ format.region-right g r (region g r)) }
+    ensures { OfRecord w.now (λ g. answered result ≡ format.region_right g r (region g r)) }
 {
     let reads = reads_right(w, r);
     if let Verdict::Refused(why) = reads {

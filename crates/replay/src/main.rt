@@ -1,7 +1,7 @@
 // Replays a list of stores with their answers, read from standard input, and prints how many agree.
 ghost use Rattle.std.specs.Prelude.{◌≡◌, ◌≤◌, [], ◌∷◌, length, take};
 ghost use Rattle.vectors.specs.Reading.{Reads};
-ghost use Rattle.replay.specs.Agrees.{of-sheet, is-shown, agrees};
+ghost use Rattle.replay.specs.Agrees.{of_sheet, is_shown, agrees};
 
 use libc::{STDIN_FILENO, STDOUT_FILENO};
 use replay_sheets::sheets::{PRINTED, is_nested};
@@ -18,7 +18,7 @@ fn is_shown(
     out: &mut [u8],
 ) -> bool
     requires { (size ≤ length bytes.now) × (65536 ≤ length out.old) }
-    ensures { result ≡ is-shown (take size bytes.now) listed.now }
+    ensures { result ≡ is_shown (take size bytes.now) listed.now }
 {
     let written = text_show::show(&bytes[..size], words, out);
     let Written::Bytes(n) = written else {
@@ -29,7 +29,7 @@ fn is_shown(
 
 // Whether the word before the store ends in t, as `nest` does: then the answer is a sheet's, with its words.
 fn of_sheet(vector: &[u8]) -> bool
-    ensures { result ≡ of-sheet vector.now }
+    ensures { result ≡ of_sheet vector.now }
 {
     let at = vectors::behind(vector, b' ');
     if at < 2 {

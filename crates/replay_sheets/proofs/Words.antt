@@ -9,16 +9,16 @@ use lib.ListN.{length, get_or, take, drop, length-append, length-drop, drop_of_l
 use lib.Seq.{drop-cons, get_or-append-add, get_or-drop, get_or-take, length-take-le}
 use lib.Dec.{eqb}
 use borrow.Author.Tests.{eq-eqb, ne_eqb}
-use Rattle.vectors.specs.Same.{same-list}
-use Rattle.replay_sheets.specs.Sheets.{word-from, words-from-bytes, put-over}
+use Rattle.vectors.specs.Same.{same_list}
+use Rattle.replay_sheets.specs.Sheets.{word_from, words_from_bytes, put_over}
 
 -- ---- four bytes to a word
 pub record Quarter (bs : List ℕ) : Type 0 where
-  pub few : 4 * length (words-from-bytes bs) ≤ length bs
-  pub all : length bs < 4 * length (words-from-bytes bs) + 4
+  pub few : 4 * length (words_from_bytes bs) ≤ length bs
+  pub all : length bs < 4 * length (words_from_bytes bs) + 4
 
 pub quarter : (bs : List ℕ) → Quarter bs
-unfolding words-from-bytes
+unfolding words_from_bytes
 quarter [] = record { few = omega arith; all = omega arith }
 quarter (a ∷ []) = record { few = omega arith; all = omega arith }
 quarter (a ∷ b ∷ []) = record { few = omega arith; all = omega arith }
@@ -27,8 +27,8 @@ quarter (a ∷ b ∷ c ∷ d ∷ bs) = let q = quarter bs in record { few = omeg
 
 -- The word at place i.
 pub word_at : (bs : List ℕ) (i : ℕ) → 4 * i + 3 < length bs
-    → get_or (words-from-bytes bs) i 0 ≡ word-from (get_or bs (4 * i) 0) (get_or bs (4 * i + 1) 0) (get_or bs (4 * i + 2) 0) (get_or bs (4 * i + 3) 0)
-unfolding words-from-bytes
+    → get_or (words_from_bytes bs) i 0 ≡ word_from (get_or bs (4 * i) 0) (get_or bs (4 * i + 1) 0) (get_or bs (4 * i + 2) 0) (get_or bs (4 * i + 3) 0)
+unfolding words_from_bytes
 word_at [] i h = absurd (omega arith)
 word_at (a ∷ []) i h = absurd (omega arith)
 word_at (a ∷ b ∷ []) i h = absurd (omega arith)
@@ -43,16 +43,16 @@ word_at (a ∷ b ∷ c ∷ d ∷ bs) (suc i) h =
 
 -- ---- words put over lent ones
 module _ (ws lent : List ℕ) where
-  put-over-length : length ws ≤ length lent → length (put-over ws lent) ≡ length lent
-  put-over-length h = simp (length-append, length-drop) (omega arith)
+  put_over_length : length ws ≤ length lent → length (put_over ws lent) ≡ length lent
+  put_over_length h = simp (length-append, length-drop) (omega arith)
 
-  put-over-front : (i : ℕ) → i < length ws → get_or (put-over ws lent) i 0 ≡ get_or ws i 0
-  put-over-front i h = get_or-append ws (drop (length ws) lent) 0 i h
+  put_over_front : (i : ℕ) → i < length ws → get_or (put_over ws lent) i 0 ≡ get_or ws i 0
+  put_over_front i h = get_or-append ws (drop (length ws) lent) 0 i h
 
-  put-over-rest : (i : ℕ) → length ws ≤ i → get_or (put-over ws lent) i 0 ≡ get_or lent i 0
-  put-over-rest i h =
+  put_over_rest : (i : ℕ) → length ws ≤ i → get_or (put_over ws lent) i 0 ≡ get_or lent i 0
+  put_over_rest i h =
       let same : length ws + (i - length ws) ≡ i = omega arith in
-      ap (λ j. get_or (put-over ws lent) j 0) (sym same)
+      ap (λ j. get_or (put_over ws lent) j 0) (sym same)
       ∙ get_or-append-add ws (drop (length ws) lent) (i - length ws) 0
       ∙ get_or-drop (length ws) lent (i - length ws) 0
       ∙ ap (λ j. get_or lent j 0) same
@@ -62,42 +62,42 @@ module _ (bytes lent : List ℕ) (n : ℕ) (within : n ≤ length bytes) where
   size : length (take n bytes) ≡ n
   size = length-take-le n bytes within
 
-  pub as_long : n ≤ 4 * length lent → length lent ≡ length (put-over (words-from-bytes (take n bytes)) lent)
+  pub as_long : n ≤ 4 * length lent → length lent ≡ length (put_over (words_from_bytes (take n bytes)) lent)
   as_long h =
       let q = quarter (take n bytes) in
       let s = size in
-      sym (put-over-length (words-from-bytes (take n bytes)) lent (omega arith))
+      sym (put_over_length (words_from_bytes (take n bytes)) lent (omega arith))
 
-  pub as_lent : (i : ℕ) → n / 4 ≤ i → get_or lent i 0 ≡ get_or (put-over (words-from-bytes (take n bytes)) lent) i 0
+  pub as_lent : (i : ℕ) → n / 4 ≤ i → get_or lent i 0 ≡ get_or (put_over (words_from_bytes (take n bytes)) lent) i 0
   as_lent i h =
       let q = quarter (take n bytes) in
       let s = size in
-      sym (put-over-rest (words-from-bytes (take n bytes)) lent i (omega arith))
+      sym (put_over_rest (words_from_bytes (take n bytes)) lent i (omega arith))
 
-  pub as-listed : (i : ℕ) → i < n / 4 → {r : ℕ}
-      → r ≡ word-from (get_or bytes (4 * i) 0) (get_or bytes (4 * i + 1) 0) (get_or bytes (4 * i + 2) 0) (get_or bytes (4 * i + 3) 0)
-      → r ≡ get_or (put-over (words-from-bytes (take n bytes)) lent) i 0
-  as-listed i h is =
+  pub as_listed : (i : ℕ) → i < n / 4 → {r : ℕ}
+      → r ≡ word_from (get_or bytes (4 * i) 0) (get_or bytes (4 * i + 1) 0) (get_or bytes (4 * i + 2) 0) (get_or bytes (4 * i + 3) 0)
+      → r ≡ get_or (put_over (words_from_bytes (take n bytes)) lent) i 0
+  as_listed i h is =
       let q = quarter (take n bytes) in
       let s = size in
       let front : (k : ℕ) → k < n → get_or (take n bytes) k 0 ≡ get_or bytes k 0 = λ k l. get_or-take n bytes k 0 l in
       is
-      ∙ sym (put-over-front (words-from-bytes (take n bytes)) lent i (omega arith)
+      ∙ sym (put_over_front (words_from_bytes (take n bytes)) lent i (omega arith)
       ∙ word_at (take n bytes) i (omega arith)
       ∙ rw (front (4 * i) (omega arith), front (4 * i + 1) (omega arith), front (4 * i + 2) (omega arith), front (4 * i + 3) (omega arith)))
 
 -- ---- two lists of one length, compared place by place
 module _ (a b : List ℕ) (long : length a ≡ length b) (i : ℕ) where
-  at_place : i < length a → same-list (drop i a) (drop i b) ≡ (eqb (get_or a i 0) (get_or b i 0) && same-list (drop (suc i) a) (drop (suc i) b))
-  unfolding same-list
+  at_place : i < length a → same_list (drop i a) (drop i b) ≡ (eqb (get_or a i 0) (get_or b i 0) && same_list (drop (suc i) a) (drop (suc i) b))
+  unfolding same_list
   at_place h = rw (drop-cons a i 0 h, drop-cons b i 0 (omega arith))
 
-  pub differs-here : i < length a → (get_or a i 0 ≡ get_or b i 0 → ⊥) → false ≡ same-list (drop i a) (drop i b)
-  differs-here h d = sym (at_place h ∙ rw (ne_eqb (get_or a i 0) (get_or b i 0) d))
+  pub differs_here : i < length a → (get_or a i 0 ≡ get_or b i 0 → ⊥) → false ≡ same_list (drop i a) (drop i b)
+  differs_here h d = sym (at_place h ∙ rw (ne_eqb (get_or a i 0) (get_or b i 0) d))
 
-  pub same_here : i < length a → get_or a i 0 ≡ get_or b i 0 → same-list (drop (i + 1) a) (drop (i + 1) b) ≡ same-list (drop i a) (drop i b)
+  pub same_here : i < length a → get_or a i 0 ≡ get_or b i 0 → same_list (drop (i + 1) a) (drop (i + 1) b) ≡ same_list (drop i a) (drop i b)
   same_here h e = sym (at_place h ∙ rw (eq-eqb (get_or a i 0) (get_or b i 0) e, add-one))
 
-  pub same-to-end : length a ≤ i → true ≡ same-list (drop i a) (drop i b)
-  unfolding same-list
-  same-to-end h = rw (drop_of_length-le a h, drop_of_length-le b {i = i} (omega arith))
+  pub same_to_end : length a ≤ i → true ≡ same_list (drop i a) (drop i b)
+  unfolding same_list
+  same_to_end h = rw (drop_of_length-le a h, drop_of_length-le b {i = i} (omega arith))

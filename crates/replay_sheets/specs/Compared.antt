@@ -2,12 +2,12 @@
 use Rattle.std.specs.Prelude.{◌≡◌, Bool, true, List, ℕ, ◌-◌, take, drop}
 use Rattle.std.proofs.Common.{ap, ◌∙◌}
 use Rattle.std.proofs.Math.Nat.{sub-zero}
-use Rattle.vectors.specs.Same.{same-list}
+use Rattle.vectors.specs.Same.{same_list}
 use Rattle.vectors.specs.laws.SameLaws.{as_same}
 use Rattle.text.specs.Whole.{InFront}
 
 -- A comparison of the listed text with &after[0..n], where what is shown stands.
-pub as-shown : {text after listed : List ℕ} {n : ℕ} {r : Bool} → InFront text after n
+pub as_shown : {text after listed : List ℕ} {n : ℕ} {r : Bool} → InFront text after n
     → (r ≡ true → take (n - 0) (drop 0 after) ≡ listed) × (take (n - 0) (drop 0 after) ≡ listed → r ≡ true)
-    → r ≡ same-list text listed
-as-shown {listed = listed} front h = as_same _ _ _ h ∙ ap (λ l. same-list l listed) (rw sub-zero front.is)
+    → r ≡ same_list text listed
+as_shown {listed = listed} front h = as_same _ _ _ h ∙ ap (λ l. same_list l listed) (rw sub-zero front.is)

@@ -1,7 +1,7 @@
 // Listed sheets: what nesting leaves in lent words, and the text that is printed, beside the listed words and text.
 ghost use Rattle.std.specs.Prelude.{◌≡◌, ◌*◌, ◌≤◌, ◌<◌, length, get_or, take};
-ghost use Rattle.vectors.specs.Same.{same-list};
-ghost use Rattle.replay_sheets.specs.Sheets.{lent-words, word-from, words-from-bytes, put-over, is-nested};
+ghost use Rattle.vectors.specs.Same.{same_list};
+ghost use Rattle.replay_sheets.specs.Sheets.{lent_words, word_from, words_from_bytes, put_over, is_nested};
 
 use store::WORDS;
 use text::Written;
@@ -13,14 +13,14 @@ const LENT: usize = 16384;
 pub const PRINTED: usize = 262144;
 
 fn lend() -> [u32; LENT]
-    ensures { result ≡ lent-words }
+    ensures { result ≡ lent_words }
 {
     [2779096485; LENT]
 }
 
 // A word in four bytes, the highest first.
 fn word(a: u8, b: u8, c: u8, d: u8) -> u32
-    ensures { result ≡ word-from a b c d }
+    ensures { result ≡ word_from a b c d }
 {
     16777216 * (a as u32) + 65536 * (b as u32) + 256 * (c as u32) + (d as u32)
 }
@@ -28,7 +28,7 @@ fn word(a: u8, b: u8, c: u8, d: u8) -> u32
 // What has to stand at place i: a listed word, or what was lent.
 fn word_at(lent: &[u32], listed: &[u8], size: usize, i: usize) -> u32
     requires { (size ≤ length listed.now) × (i < length lent.now) }
-    ensures { result ≡ get_or (put-over (words-from-bytes (take size listed.now)) lent.now) i 0 }
+    ensures { result ≡ get_or (put_over (words_from_bytes (take size listed.now)) lent.now) i 0 }
 {
     if size / 4 <= i {
         return lent[i];
@@ -40,8 +40,8 @@ fn word_at(lent: &[u32], listed: &[u8], size: usize, i: usize) -> u32
 // Whether words are the listed ones, and behind them as lent.
 fn is_written(out: &[u32], lent: &[u32], listed: &[u8], size: usize) -> bool
     requires { (length out.now ≡ length lent.now) × ((size ≤ length listed.now) × (size ≤ 4 * length lent.now)) }
-    ensures { result ≡ same-list out.now
-        (put-over (words-from-bytes (take size listed.now)) lent.now) }
+    ensures { result ≡ same_list out.now
+        (put_over (words_from_bytes (take size listed.now)) lent.now) }
 {
     let mut i: usize = 0;
     while i < out.len() {
@@ -63,7 +63,7 @@ pub fn is_nested(
     text: &mut [u8],
 ) -> bool
     requires { (size ≤ length bytes.now) × ((length listed.now ≤ 65536) × (262144 ≤ length text.old)) }
-    ensures { result ≡ is-nested (take size bytes.now) listed.now }
+    ensures { result ≡ is_nested (take size bytes.now) listed.now }
 {
     let lent = lend();
     let mut out = lent;

@@ -2,12 +2,12 @@
 ghost use Rattle.std.specs.Prelude.{◌≡◌, ◌<◌, length, get_or};
 ghost use Rattle.meaning.specs.Graph.{region, no_value};
 ghost use Rattle.meaning.specs.Runs.{block};
-ghost use Rattle.nesting.specs.Nesting.{blocks-of};
-ghost use Rattle.fields.specs.ByNumber.{block_of, instr-of, instructions-before};
+ghost use Rattle.nesting.specs.Nesting.{blocks_of};
+ghost use Rattle.fields.specs.ByNumber.{block_of, instr_of, instructions_before};
 ghost use Rattle.sheet_words.specs.Parts as parts;
 ghost use Rattle.sheet_words.specs.Parts.{OfState};
 ghost use Rattle.sheet_words.specs.PutInFront.{Puts};
-ghost use Rattle.sheet_blocks.specs.BlockParts.{item-part};
+ghost use Rattle.sheet_blocks.specs.BlockParts.{item_part};
 
 use sheet_words::leads::BLOCK_LINE;
 use sheet_words::place::{Place, put, put_word};
@@ -16,8 +16,8 @@ use state_words::values::value_word;
 use store::WORDS;
 
 fn put_read(w: &[u16; WORDS], out: &mut [u32], at: Place, r: u16, b: u16, i: u16, k: u16) -> Place
-    ensures { OfState w.now (λ g s. k < length (instr-of g r b i).reads → Puts out.old at
-        (parts.«value-part» s (get_or (instr-of g r b i).reads k no_value)) out.new result) }
+    ensures { OfState w.now (λ g s. k < length (instr_of g r b i).reads → Puts out.old at
+        (parts.«value_part» s (get_or (instr_of g r b i).reads k no_value)) out.new result) }
 {
     let v = fields::read(w, r, b, i, k);
     put_value(w, out, at, value_word(v))
@@ -25,8 +25,8 @@ fn put_read(w: &[u16; WORDS], out: &mut [u32], at: Place, r: u16, b: u16, i: u16
 
 // The reads of an instruction, n of them, with their count in front.
 fn put_reads(w: &[u16; WORDS], out: &mut [u32], at: Place, r: u16, b: u16, i: u16, n: u16) -> Place
-    ensures { OfState w.now (λ g s. n ≡ length (instr-of g r b i).reads → Puts out.old at
-        (parts.«values-part» s (instr-of g r b i).reads) out.new result) }
+    ensures { OfState w.now (λ g s. n ≡ length (instr_of g r b i).reads → Puts out.old at
+        (parts.«values_part» s (instr_of g r b i).reads) out.new result) }
 {
     let mut front = at;
     let mut k = n;
@@ -47,7 +47,7 @@ fn put_item(
     i: u16,
     index: u32,
 ) -> Place
-    ensures { OfState w.now (λ g s. Puts out.old at (item-part s r index (instr-of g r b i))
+    ensures { OfState w.now (λ g s. Puts out.old at (item_part s r index (instr_of g r b i))
         out.new result) }
 {
     let x = fields::instruction(w, r, b, i);
@@ -61,7 +61,7 @@ fn put_item(
 // Block b of region r, as this node.
 pub fn put_block(w: &[u16; WORDS], out: &mut [u32], at: Place, r: u16, b: u16, node: u32) -> Place
     ensures { OfState w.now (λ g s. Puts out.old at
-        (parts.«node-part» s (block node r (instructions-before (region g r).blocks b) (block_of g r b))) out.new result) }
+        (parts.«node_part» s (block node r (instructions_before (region g r).blocks b) (block_of g r b))) out.new result) }
 {
     let n = fields::block_length(w, r, b);
     let first = fields::instructions_before(w, r, b);
@@ -78,7 +78,7 @@ pub fn put_block(w: &[u16; WORDS], out: &mut [u32], at: Place, r: u16, b: u16, n
 
 // The blocks of region r, in order.
 pub fn put_blocks(w: &[u16; WORDS], out: &mut [u32], at: Place, r: u16) -> Place
-    ensures { OfState w.now (λ g s. Puts out.old at (parts.«nodes-part» s (blocks-of g r))
+    ensures { OfState w.now (λ g s. Puts out.old at (parts.«nodes_part» s (blocks_of g r))
         out.new result) }
 {
     let first = fields::blocks_before(w, r);

@@ -1,10 +1,10 @@
 // Exits: lead, node, opcode, values.
 ghost use Rattle.std.specs.Prelude.{◌≡◌, List, ℕ, ◌<◌, length, get_or};
 ghost use Rattle.meaning.specs.Graph as graph;
-ghost use Rattle.meaning.specs.Graph.{region, no_value, exit-invocation};
+ghost use Rattle.meaning.specs.Graph.{region, no_value, exit_invocation};
 ghost use Rattle.meaning.specs.Runs.{exit};
 ghost use Rattle.record.specs.Stands.{OfRecord};
-ghost use Rattle.fields.specs.ByNumber.{end-values};
+ghost use Rattle.fields.specs.ByNumber.{end_values};
 ghost use Rattle.sheet_words.specs.Parts as parts;
 ghost use Rattle.sheet_words.specs.Parts.{OfState};
 ghost use Rattle.sheet_words.specs.PutInFront.{Puts};
@@ -17,8 +17,8 @@ use state_words::values::value_word;
 use store::WORDS;
 
 fn put_end_value(w: &[u16; WORDS], out: &mut [u32], at: Place, r: u16, k: u16) -> Place
-    ensures { OfState w.now (λ g s. k < length (end-values g r) → Puts out.old at
-        (parts.«value-part» s (get_or (end-values g r) k no_value)) out.new result) }
+    ensures { OfState w.now (λ g s. k < length (end_values g r) → Puts out.old at
+        (parts.«value_part» s (get_or (end_values g r) k no_value)) out.new result) }
 {
     let v = fields::value(w, r, k);
     put_value(w, out, at, value_word(v))
@@ -26,7 +26,7 @@ fn put_end_value(w: &[u16; WORDS], out: &mut [u32], at: Place, r: u16, k: u16) -
 
 // The values of region r's terminator, with their count in front.
 pub fn put_end_values(w: &[u16; WORDS], out: &mut [u32], at: Place, r: u16) -> Place
-    ensures { OfState w.now (λ g s. Puts out.old at (parts.«values-part» s (end-values g r))
+    ensures { OfState w.now (λ g s. Puts out.old at (parts.«values_part» s (end_values g r))
         out.new result) }
 {
     let n = fields::value_count(w, r);
@@ -41,7 +41,7 @@ pub fn put_end_values(w: &[u16; WORDS], out: &mut [u32], at: Place, r: u16) -> P
 
 // Of an exit; 0 where the terminator is another.
 fn opcode(w: &[u16; WORDS], r: u16) -> u16
-    ensures { OfRecord w.now (λ g. (op : ℕ) (vs : List graph.Value) → (region g r).terminator ≡ exit-invocation op vs
+    ensures { OfRecord w.now (λ g. (op : ℕ) (vs : List graph.Value) → (region g r).terminator ≡ exit_invocation op vs
         → result ≡ op) }
 {
     let x = fields::terminator(w, r);
@@ -53,8 +53,8 @@ fn opcode(w: &[u16; WORDS], r: u16) -> u16
 
 // The exit of region r, as this node.
 pub fn put_exit(w: &[u16; WORDS], out: &mut [u32], at: Place, node: u16, r: u16) -> Place
-    ensures { OfState w.now (λ g s. (op : ℕ) (vs : List graph.Value) → (region g r).terminator ≡ exit-invocation op vs
-        → Puts out.old at (parts.«node-part» s (exit node op vs)) out.new result) }
+    ensures { OfState w.now (λ g s. (op : ℕ) (vs : List graph.Value) → (region g r).terminator ≡ exit_invocation op vs
+        → Puts out.old at (parts.«node_part» s (exit node op vs)) out.new result) }
 {
     let values = put_end_values(w, out, at, r);
     let op = opcode(w, r);

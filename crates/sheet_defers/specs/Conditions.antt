@@ -1,6 +1,6 @@
 -- A condition in words: t, f and u are 1, 2 and 3; a merge is 4, its node, and its parts with their count.
 use Rattle.std.specs.Prelude.{List, [], ℕ, get_or}
-use Rattle.nesting.specs.Nesting.{plain, LazyCond, undef-cond, false-cond, true-cond, merge}
+use Rattle.nesting.specs.Nesting.{plain, LazyCond, undef_cond, false_cond, true_cond, merge}
 use Rattle.nesting.specs.Sheet as sheet
 use Rattle.state_shown.specs.Tables.{ShowsCond}
 use Rattle.sheet_words.specs.declared.place.Place.{Place}
@@ -11,12 +11,12 @@ abbrev pub PutsCondition : List ℕ → ℕ → List ℕ → Place → List ℕ 
 PutsCondition w c out at out' at' =
     (t : LazyCond) → ShowsCond w c t → Puts out at (plain (sheet.condition t).words) out' at'
 
-abbrev fields-of : LazyCond → List sheet.Field
-fields-of true-cond = []
-fields-of false-cond = []
-fields-of undef-cond = []
-fields-of (merge n k v ts) = sheet.conditions ts
+abbrev fields_of : LazyCond → List sheet.Field
+fields_of true_cond = []
+fields_of false_cond = []
+fields_of undef_cond = []
+fields_of (merge n k v ts) = sheet.conditions ts
 
 -- Part j of a merge.
-abbrev pub condition-part : LazyCond → ℕ → Part
-condition-part t j = plain (get_or (fields-of t) j (sheet.label "")).words
+abbrev pub condition_part : LazyCond → ℕ → Part
+condition_part t j = plain (get_or (fields_of t) j (sheet.label "")).words

@@ -3,7 +3,7 @@ ghost use Rattle.std.specs.Prelude.{◌≡◌, length};
 ghost use Rattle.nesting.specs.Nesting.{DeferredEdgeBundle, DeferredEdgeBundleSet};
 ghost use Rattle.state_shown.specs.Sets.{ShowsBundle};
 ghost use Rattle.state_shown.specs.States.{ShowsOwnSet};
-ghost use Rattle.sheet_words.specs.Parts.{OfState, each, defer-part};
+ghost use Rattle.sheet_words.specs.Parts.{OfState, each, defer_part};
 ghost use Rattle.sheet_words.specs.PutInFront.{Puts};
 
 use crate::conditions::put_condition;
@@ -25,7 +25,7 @@ fn put_bundle(
     size: u16,
 ) -> Place
     ensures { OfState w.now (λ g s. (d : DeferredEdgeBundleSet) (e : DeferredEdgeBundle) → size ≡ length d
-        → ShowsBundle g w.now p.0 e → Puts out.old at (defer-part s r d e) out.new result) }
+        → ShowsBundle g w.now p.0 e → Puts out.old at (defer_part s r d e) out.new result) }
 {
     let condition = put_condition(w, out, at, condition_in(w, p, size));
     let inputs = put_target_inputs(w, out, condition, p);
@@ -38,7 +38,7 @@ fn put_bundle(
 // In the order of region r's set.
 pub fn put_set(w: &[u16; WORDS], out: &mut [u32], at: Place, r: u16) -> Place
     ensures { OfState w.now (λ g s. (d : DeferredEdgeBundleSet) → ShowsOwnSet g w.now r d
-        → Puts out.old at (each (defer-part s r d) d) out.new result) }
+        → Puts out.old at (each (defer_part s r d) d) out.new result) }
 {
     let start = set_start(w, r);
     let n = set_length(w, r);

@@ -1,7 +1,7 @@
 // The inputs that a loop keeps, along their cells: the last is put first, and then their count.
 ghost use Rattle.std.specs.Prelude.{◌≡◌, ℕ};
 ghost use Rattle.nesting.specs.Nesting.{LoopInputs};
-ghost use Rattle.sheet_words.specs.Parts.{OfState, values-part};
+ghost use Rattle.sheet_words.specs.Parts.{OfState, values_part};
 ghost use Rattle.sheet_words.specs.PutInFront.{Puts};
 ghost use Rattle.sheet_regions.specs.Kept as kept;
 
@@ -31,7 +31,7 @@ pub fn put_kept_values(
     back: bool,
 ) -> Place
     ensures { OfState w.now (λ g s. (r : ℕ) (y : LoopInputs) → kept.KeepsInputs g w.now r list.0 y
-        → Puts out.old at (values-part s (kept.«kept-values» back y)) out.new result) }
+        → Puts out.old at (values_part s (kept.«kept_values» back y)) out.new result) }
 {
     let mut to = at;
     let mut n: u16 = 0;

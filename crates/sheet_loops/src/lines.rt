@@ -1,7 +1,7 @@
 // A loop's own line, and its body's region line.
-ghost use Rattle.sheet_words.specs.Parts.{OfState, region-part};
+ghost use Rattle.sheet_words.specs.Parts.{OfState, region_part};
 ghost use Rattle.sheet_words.specs.PutInFront.{Puts};
-ghost use Rattle.sheet_loops.specs.LoopParts.{loop-part, loop-lines};
+ghost use Rattle.sheet_loops.specs.LoopParts.{loop_part, loop_lines};
 ghost use Rattle.sheet_loops.specs.OfLoop.{OfLoop};
 
 use crate::kept::put_kept_values;
@@ -16,7 +16,7 @@ use store::WORDS;
 // Region, inputs' types, child nodes, outputs.
 fn put_body_line(w: &[u16; WORDS], out: &mut [u32], at: Place, h: Handle) -> Place
     ensures { OfState w.now (λ g s. OfLoop g w.now h.0 (λ x ns.
-        Puts out.old at (region-part s x.body x.types ns x.outputs) out.new result)) }
+        Puts out.old at (region_part s x.body x.types ns x.outputs) out.new result)) }
 {
     let r = loop_header(w, h);
     let kept = loop_kept(w, h);
@@ -34,7 +34,7 @@ fn put_body_line(w: &[u16; WORDS], out: &mut [u32], at: Place, h: Handle) -> Pla
 // Node, initial inputs, body region, repeat value.
 fn put_loop_line(w: &[u16; WORDS], out: &mut [u32], at: Place, h: Handle) -> Place
     ensures { OfState w.now (λ g s. OfLoop g w.now h.0 (λ x ns.
-        Puts out.old at (loop-part s x) out.new result)) }
+        Puts out.old at (loop_part s x) out.new result)) }
 {
     let repeat = put_value(w, out, at, loop_repeat(w, h));
     let body = put_word(out, repeat, loop_header(w, h));
@@ -46,7 +46,7 @@ fn put_loop_line(w: &[u16; WORDS], out: &mut [u32], at: Place, h: Handle) -> Pla
 // Of the loop that cell h adds: what stands before its body's nodes.
 pub fn put_loop_lines(w: &[u16; WORDS], out: &mut [u32], at: Place, h: Handle) -> Place
     ensures { OfState w.now (λ g s. OfLoop g w.now h.0 (λ x ns.
-        Puts out.old at (loop-lines s x ns) out.new result)) }
+        Puts out.old at (loop_lines s x ns) out.new result)) }
 {
     let body = put_body_line(w, out, at, h);
     put_loop_line(w, out, body, h)

@@ -4,7 +4,7 @@ use Rattle.meaning.specs.Graph.{Graph, region}
 use Rattle.meaning.specs.Runs.{Nodes}
 use Rattle.nesting.specs.Nesting.{LoopInputs, plain}
 use Rattle.nesting.specs.Sheet.{kids}
-use Rattle.nesting.specs.SheetNumbers.{lead-region}
+use Rattle.nesting.specs.SheetNumbers.{lead_region}
 use Rattle.state_words.specs.declared.handles.Handle.{Handle}
 use Rattle.state_words.specs.Sections.{section, cells}
 use Rattle.state_shown.specs.Cells.{ShowsNodes}
@@ -17,13 +17,13 @@ use Rattle.sheet_regions.specs.Kept.{KeepsInputs}
 
 -- The types of the inputs that a line of region r names.
 pub data HasTypes (g : Graph) (w : List ℕ) (r : ℕ) : RegionInputs → List ℕ → Type 0 where
-  no-types : HasTypes g w r None []
+  no_types : HasTypes g w r None []
   all_types : HasTypes g w r All (region g r).inputs
-  kept-types : {list : Handle} (y : LoopInputs) → KeepsInputs g w r list.0 y → HasTypes g w r (Kept list) y.types
+  kept_types : {list : Handle} (y : LoopInputs) → KeepsInputs g w r list.0 y → HasTypes g w r (Kept list) y.types
 
 -- Lead, region, types, child nodes.
-abbrev pub region-front : ℕ → List ℕ → Nodes → List ℕ
-region-front r ts ks = (lead-region ∷ r ∷ length ts ∷ ts) ++ (most (length (kids ks)) ∷ kids ks)
+abbrev pub region_front : ℕ → List ℕ → Nodes → List ℕ
+region_front r ts ks = (lead_region ∷ r ∷ length ts ∷ ts) ++ (most (length (kids ks)) ∷ kids ks)
 
 abbrev pub PutsTypes : List ℕ → ℕ → RegionInputs → List ℕ → Place → List ℕ → Place → Type 0
 PutsTypes w r inputs out at out' at' =
@@ -32,4 +32,4 @@ PutsTypes w r inputs out at out' at' =
 abbrev pub PutsRegionLine : List ℕ → ℕ → RegionInputs → ℕ → List ℕ → Place → List ℕ → Place → Type 0
 PutsRegionLine w r inputs list out at out' at' =
     OfState w (λ g s. (ts : List ℕ) (ks : Nodes) → HasTypes g w r inputs ts → ShowsNodes g (section w cells) list ks
-    → Puts out at (plain (region-front r ts ks)) out' at')
+    → Puts out at (plain (region_front r ts ks)) out' at')

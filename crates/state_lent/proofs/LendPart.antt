@@ -59,10 +59,10 @@ module _ (R P : RattleType) (d : ℕ) (K : KeptOf R) (get : R.Denot → P.Denot)
         at_once ! $ show ! (λ (δ' : GName). sep 𝓤 (mean 𝓛 (Lent δ' x)) (mean 𝓛 (Kept δ' x))) δ $
         frame ! $ move ! (1 ∷ []) $ frame ! $ done !))
 
-    pub part-back : (δ : GName) (x : R.Denot) (y : P.Denot)
+    pub part_back : (δ : GName) (x : R.Denot) (y : P.Denot)
         → ent 𝓤 (sep 𝓤 (A.dead κ') (sep 𝓤 (mean 𝓛 (Kept δ x)) (A.res δ (P.coded.code y))))
         (H.⇛ (sep 𝓤 (sem 𝓛 ((MutRef ℓ κ R).own_val (whole (put x y)) (vptr b o ∷ []))) (A.lft κ q)))
-    part-back δ x y =
+    part_back δ x y =
         qed 𝓛 (‵ (fdead κ') ∷ Kept δ x ∷ ‵ (fres δ (P.coded.code y)) ∷ []) ∵ updating ! $
         move ! (1 ∷ []) $ split ! $ move ! (1 ∷ []) $ split ! $ move ! (3 ∷ 0 ∷ 4 ∷ []) $
         use3 𝓛 (later (‵ (part_at P full_share y b (o + d)))) (ref_back 𝓛 P κ' δ y b (o + d)) $ await ! tt $

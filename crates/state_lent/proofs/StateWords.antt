@@ -32,39 +32,39 @@ same_map (x ∷ xs) = ap (λ (ys : List ℕ). x ∷ ys) (same_map xs)
 pub to_same : (l : List ℕ) (b o : ℕ) → part_at Words full_share l b o ≡ part_at Words full_share (map (λ (v : ℕ). v) l) b o
 to_same l b o = ap (λ (x : List ℕ). part_at Words full_share x b o) (sym (same_map l))
 
-pub of-same : (l : List ℕ) (b o : ℕ) → part_at Words full_share (map (λ (v : ℕ). v) l) b o ≡ part_at Words full_share l b o
-of-same l b o = ap (λ (x : List ℕ). part_at Words full_share x b o) (same_map l)
+pub of_same : (l : List ℕ) (b o : ℕ) → part_at Words full_share (map (λ (v : ℕ). v) l) b o ≡ part_at Words full_share l b o
+of_same l b o = ap (λ (x : List ℕ). part_at Words full_share x b o) (same_map l)
 
-abbrev pub with-words : NestState → List ℕ → NestState
-with-words h l = record { words = l }
+abbrev pub with_words : NestState → List ℕ → NestState
+with_words h l = record { words = l }
 
 abbrev pub kept : KeptOf T.the_row
 kept =
-    kept_record_as T.the_type T'.the_laws 0 0 Words (λ l. l) (λ l. l) to_same of-same
+    kept_record_as T.the_type T'.the_laws 0 0 Words (λ l. l) (λ l. l) to_same of_same
     (T.struct).as_values (T.struct).Ghost (T.struct).make (λ v. tt) (λ x. refl) (λ v g. refl)
 
 pub cuts : Cuts T.the_row Words 0 kept (λ h. h.words)
 cuts M 𝓤 𝓛 x b o =
-    record_apart_as T.the_type T'.the_laws 0 0 Words (λ l. l) (λ l. l) to_same of-same
+    record_apart_as T.the_type T'.the_laws 0 0 Words (λ l. l) (λ l. l) to_same of_same
     (T.struct).as_values (T.struct).Ghost (T.struct).make (λ v. tt) (λ y. refl) (λ v g. refl) 𝓛 refl refl x b o
 
-pub fills : Fills T.the_row Words 0 kept with-words
+pub fills : Fills T.the_row Words 0 kept with_words
 fills =
-    record_fill_as T.the_type T'.the_laws 0 0 Words (λ l. l) (λ l. l) to_same of-same
+    record_fill_as T.the_type T'.the_laws 0 0 Words (λ l. l) (λ l. l) to_same of_same
     (T.struct).as_values (T.struct).Ghost (T.struct).make (λ v. tt) (λ y. refl) (λ v g. refl) refl
 
 -- ---- What a walk cites: what a reference to the state owns, and what one to its words, at a lifetime ℓ of the function's signature.
 abbrev pub OwnsState : Lifetime → Lft → ℕ → ℕ → GName → NestState → Fml
 OwnsState ℓ κ b o γ h = (MutRef ℓ κ T.the_row).own_val (record { ref_ptr = (b, o); ghost_name = γ; now = h }) (vptr b o ∷ [])
 
-abbrev pub words-at : ℕ → ℕ → GName → List ℕ → MutBor (List ℕ)
-words-at b o δ l = record { ref_ptr = (b, o + 0); ghost_name = δ; now = l }
+abbrev pub words_at : ℕ → ℕ → GName → List ℕ → MutBor (List ℕ)
+words_at b o δ l = record { ref_ptr = (b, o + 0); ghost_name = δ; now = l }
 
-abbrev pub words-pointer : ℕ → ℕ → List Val
-words-pointer b o = vptr b (o + 0) ∷ []
+abbrev pub words_pointer : ℕ → ℕ → List Val
+words_pointer b o = vptr b (o + 0) ∷ []
 
 abbrev pub OwnsWords : Lifetime → Lft → ℕ → ℕ → GName → List ℕ → Fml
-OwnsWords ℓ κ b o δ l = (MutRef ℓ κ Words).own_val (words-at b o δ l) (words-pointer b o)
+OwnsWords ℓ κ b o δ l = (MutRef ℓ κ Words).own_val (words_at b o δ l) (words_pointer b o)
 
 module _ {M : Type 1} {𝓤 : Ura M} (𝓛 : Logic 𝓤) (ℓ : Lifetime) (κ : Lft) (q : Share) (b o : ℕ)
     (γ : GName) (h : NestState) where
@@ -72,26 +72,26 @@ module _ {M : Type 1} {𝓤 : Ura M} (𝓛 : Logic 𝓤) (ℓ : Lifetime) (κ : 
   open 𝓛 use {H}
 
   abbrev pub Kept : ℕ → GName → Item 𝓤
-  Kept ν δ = lend.Kept T.the_row Words 0 kept (λ s. s.words) with-words cuts fills κ (ν ∷ []) q γ b o 𝓛 ℓ ℓ δ h
+  Kept ν δ = lend.Kept T.the_row Words 0 kept (λ s. s.words) with_words cuts fills κ (ν ∷ []) q γ b o 𝓛 ℓ ℓ δ h
 
   abbrev Lent : ℕ → GName → Item 𝓤
   Lent ν δ = ‵ (OwnsWords ℓ (ν ∷ []) b o δ h.words)
 
   -- The state and its token for the words, lent for a new lifetime.
-  pub lend-words : {K : Type 0} {Γ : List (Item 𝓤)} {G : Goal 𝓤 H} → K → Soaks G
+  pub lend_words : {K : Type 0} {Γ : List (Item 𝓤)} {G : Goal 𝓤 H} → K → Soaks G
       → ((ν : ℕ) (δ : GName) → Seq K 𝓛 (Lent ν δ ∷ Kept ν δ ∷ ‵ (flft (ν ∷ []) full_share) ∷ Γ) G)
       → Seq K 𝓛 (‵ (OwnsState ℓ κ b o γ h) ∷ ‵ (flft κ q) ∷ Γ) G
-  lend-words t a next =
+  lend_words t a next =
       lft_new t a (λ ν. move t (1 ∷ 2 ∷ []) $
       use2 𝓛 (later (some (λ (δ : GName). Lent ν δ ⊛ Kept ν δ)))
-      (lend.lends_part T.the_row Words 0 kept (λ s. s.words) with-words cuts fills κ (ν ∷ []) q γ b o 𝓛 ℓ ℓ h) $
+      (lend.lends_part T.the_row Words 0 kept (λ s. s.words) with_words cuts fills κ (ν ∷ []) q γ b o 𝓛 ℓ ℓ h) $
       await t a $ pick t (λ δ. split t $ next ν δ))
 
   -- The lifetime is ended, and the state comes back with the words as they are then.
   pub words_back : {K : Type 0} {Γ : List (Item 𝓤)} {G : Goal 𝓤 H} → K → Soaks G → (ν : ℕ) (δ : GName) (l : List ℕ)
-      → Step K 𝓛 (‵ (OwnsState ℓ κ b o γ (with-words h l)) ∷ ‵ (flft κ q) ∷ Γ) G
+      → Step K 𝓛 (‵ (OwnsState ℓ κ b o γ (with_words h l)) ∷ ‵ (flft κ q) ∷ Γ) G
       (‵ (flft (ν ∷ []) full_share) ∷ Kept ν δ ∷ ‵ (fres δ (Words.coded.code l)) ∷ Γ) G
   words_back t a ν δ l = step (λ s. lft_end t a $
-      use3 𝓛 (later (‵ (OwnsState ℓ κ b o γ (with-words h l)) ⊛ ‵ (flft κ q)))
-      (lend.part-back T.the_row Words 0 kept (λ s. s.words) with-words cuts fills κ (ν ∷ []) q γ b o 𝓛 ℓ ℓ δ h l) $
+      use3 𝓛 (later (‵ (OwnsState ℓ κ b o γ (with_words h l)) ⊛ ‵ (flft κ q)))
+      (lend.part_back T.the_row Words 0 kept (λ s. s.words) with_words cuts fills κ (ν ∷ []) q γ b o 𝓛 ℓ ℓ δ h l) $
       await t a $ split t $ s)

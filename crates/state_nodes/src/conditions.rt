@@ -28,14 +28,14 @@ pub const BOOL_COND: u16 = 0;
 
 fn cond_word(w: &[u16; WORDS], c: u16, i: usize) -> u16
     requires { i ≤ 65600 }
-    ensures { result ≡ sections.word w.now sections.conditions (rows.«merge-word-at» c i) }
+    ensures { result ≡ sections.word w.now sections.conditions (rows.«merge_word_at» c i) }
 {
     get(w, CONDITIONS, ROW * (c as usize) + i)
 }
 
 // The cell of its select, where node, shape and scrutinee stand.
 fn cond_select(w: &[u16; WORDS], c: u16) -> Handle
-    ensures { result.0 ≡ rows.«merge-select» w.now c }
+    ensures { result.0 ≡ rows.«merge_select» w.now c }
 {
     Handle(cond_word(w, c, 0))
 }
@@ -60,7 +60,7 @@ pub fn cond_scrutinee(w: &[u16; WORDS], c: u16) -> u16
 
 // An earlier condition.
 pub fn cond_part(w: &[u16; WORDS], c: u16, j: u16) -> u16
-    ensures { result ≡ tables.«earlier-part» (rows.«merge-part» w.now c j) c }
+    ensures { result ≡ tables.«earlier_part» (rows.«merge_part» w.now c j) c }
 {
     let p = cond_word(w, c, 1 + (j as usize));
     if p < c {

@@ -4,9 +4,9 @@ use Rattle.state_words.specs.Sections.{section, front, kinds}
 
 pub record SameFront (w w' : List ℕ) : Type 0 where
   pub words : length w' ≡ length w
-  pub front-words : section w' front ≡ section w front
+  pub front_words : section w' front ≡ section w front
 
 -- ---- The same, and the kinds of the regions.
 pub record SameKinds (w w' : List ℕ) : Type 0 where
   pub front : SameFront w w'
-  pub kinds-words : section w' kinds ≡ section w kinds
+  pub kinds_words : section w' kinds ≡ section w kinds

@@ -1,30 +1,30 @@
 -- The sections of the lent words, by number: a word read in one, a word stored in one.
 use Rattle.std.specs.Prelude.{List, [], ◌∷◌, ℕ, zero, suc, ◌+◌, get_or, set, take, drop, ltb}
 use Rattle.meaning.specs.Lists.{pick}
-use Rattle.store.specs.Layout.{index-end}
+use Rattle.store.specs.Layout.{index_end}
 
 pub data Section : Type 0 where
-  front head kinds backedges set-starts set-lengths children bodies : Section
+  front head kinds backedges set_starts set_lengths children bodies : Section
   levels cases rewrites outputs conditions cells bundles : Section
 
 -- Where each begins, and how many words it has: the record and its index, then the tables of nesting. laws/Apart shows that each begins
 -- where the one before it ends.
 abbrev pub table : Section → ℕ × ℕ
-table front = (0, index-end)
-table head = (index-end, 16)
-table kinds = (index-end + 16, 32)
-table backedges = (index-end + 48, 32)
-table set-starts = (index-end + 80, 33)
-table set-lengths = (index-end + 113, 33)
-table children = (index-end + 146, 32)
-table bodies = (index-end + 178, 32)
-table levels = (index-end + 210, 256)
-table cases = (index-end + 466, 80)
-table rewrites = (index-end + 546, 641)
-table outputs = (index-end + 1187, 5120)
-table conditions = (index-end + 6307, 4644)
-table cells = (index-end + 10951, 3912)
-table bundles = (index-end + 14863, 7679)
+table front = (0, index_end)
+table head = (index_end, 16)
+table kinds = (index_end + 16, 32)
+table backedges = (index_end + 48, 32)
+table set_starts = (index_end + 80, 33)
+table set_lengths = (index_end + 113, 33)
+table children = (index_end + 146, 32)
+table bodies = (index_end + 178, 32)
+table levels = (index_end + 210, 256)
+table cases = (index_end + 466, 80)
+table rewrites = (index_end + 546, 641)
+table outputs = (index_end + 1187, 5120)
+table conditions = (index_end + 6307, 4644)
+table cells = (index_end + 10951, 3912)
+table bundles = (index_end + 14863, 7679)
 
 abbrev pub start : Section → ℕ
 start k = (table k).0
@@ -42,8 +42,8 @@ number front = 0
 number head = 1
 number kinds = 2
 number backedges = 3
-number set-starts = 4
-number set-lengths = 5
+number set_starts = 4
+number set_lengths = 5
 number children = 6
 number bodies = 7
 number levels = 8
@@ -74,12 +74,12 @@ word l k i = read_at (start k) (size k) l i
 abbrev pub stored : List ℕ → Section → ℕ → ℕ → List ℕ
 stored l k i x = stored_at (start k) (size k) l i x
 
-unfoldable pub stored-all-at : ℕ → ℕ → List ℕ → ℕ → List ℕ → List ℕ
-stored-all-at o n l i [] = l
-stored-all-at o n l i (x ∷ xs) = stored-all-at o n (stored_at o n l i x) (suc i) xs
+unfoldable pub stored_all_at : ℕ → ℕ → List ℕ → ℕ → List ℕ → List ℕ
+stored_all_at o n l i [] = l
+stored_all_at o n l i (x ∷ xs) = stored_all_at o n (stored_at o n l i x) (suc i) xs
 
-abbrev pub stored-all : List ℕ → Section → ℕ → List ℕ → List ℕ
-stored-all l k i xs = stored-all-at (start k) (size k) l i xs
+abbrev pub stored_all : List ℕ → Section → ℕ → List ℕ → List ℕ
+stored_all l k i xs = stored_all_at (start k) (size k) l i xs
 
 -- In section k, from turn i on, n words, each at its place.
 unfoldable pub filled : Section → (ℕ → ℕ) → (ℕ → ℕ) → ℕ → ℕ → List ℕ → List ℕ

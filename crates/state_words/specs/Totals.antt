@@ -4,7 +4,7 @@ use Rattle.state_words.specs.declared.defined.Defined.{Defined}
 use Rattle.state_words.specs.declared.defined.Defined.TheVariants.{Number, Full}
 use Rattle.state_words.specs.Sections.{word, stored, head}
 use Rattle.meaning.specs.Lists.{pick}
-use Rattle.state_words.specs.Rows.{attempts-at}
+use Rattle.state_words.specs.Rows.{attempts_at}
 use Rattle.state_words.specs.Rows.{largest}
 
 -- One more of what the head counts at i, from l to l'; refusal 9 where there are as many as the limit.
@@ -18,4 +18,4 @@ abbrev pub edges_word : ℕ → ℕ
 edges_word n = min n largest
 
 unfoldable pub attempted : List ℕ → List ℕ
-attempted l = pick (ltb (word l head attempts-at) largest) (stored l head attempts-at (word l head attempts-at + 1)) l
+attempted l = pick (ltb (word l head attempts_at) largest) (stored l head attempts_at (word l head attempts_at + 1)) l

@@ -7,8 +7,8 @@ abbrev pub beyond : ℕ
 beyond = 65535
 
 -- Behind the longest record, 16 blocks of 253 words.
-abbrev pub record-end : ℕ
-record-end = 4048
+abbrev pub record_end : ℕ
+record_end = 4048
 
 -- The index has a row for each of 32 regions: where the region begins, where its turn limit and its exits stand, its 8 blocks.
 abbrev pub row_words : ℕ
@@ -17,21 +17,21 @@ row_words = 11
 abbrev pub start_word : ℕ
 start_word = 0
 
-abbrev pub limit-word : ℕ
-limit-word = 1
+abbrev pub limit_word : ℕ
+limit_word = 1
 
-abbrev pub exits-word : ℕ
-exits-word = 2
+abbrev pub exits_word : ℕ
+exits_word = 2
 
-abbrev pub blocks-word : ℕ
-blocks-word = 3
+abbrev pub blocks_word : ℕ
+blocks_word = 3
 
 abbrev pub index_at : ℕ → ℕ
-index_at r = record-end + row_words * r
+index_at r = record_end + row_words * r
 
-abbrev pub index-end : ℕ
-index-end = index_at 32
+abbrev pub index_end : ℕ
+index_end = index_at 32
 
 pub record Lent (w : List ℕ) : Type 0 where
-  pub room : index-end ≤ length w
+  pub room : index_end ≤ length w
   pub few : length w ≤ beyond

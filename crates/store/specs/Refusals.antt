@@ -1,42 +1,42 @@
 -- Document 01's number and word of each refusal that the code has.
 use Rattle.std.specs.Prelude.{ℕ}
 use Rattle.format.specs.Store.{Answer, refused}
-use Rattle.format.specs.Refusals.{wrong-length, wrong-block-number, wrong-check, wrong-word-count, out_of_range, wrong-reference}
+use Rattle.format.specs.Refusals.{wrong_length, wrong_block_number, wrong_check, wrong_word_count, out_of_range, wrong_reference}
 use Rattle.format.specs.Refusals.{wrong_type}
-use Rattle.format.specs.Refusals.{exit-named-twice, too_many, too-few-words, figure-too-large, never}
+use Rattle.format.specs.Refusals.{exit_named_twice, too_many, too_few_words, figure_too_large, never}
 use Rattle.store.specs.declared.refusals.Refusal.{Refusal}
 use Rattle.store.specs.declared.refusals.Refusal.TheVariants.{WrongLength, WrongBlockNumber, WrongCheck, WrongWordCount, OutOfRange}
 use Rattle.store.specs.declared.refusals.Refusal.TheVariants.{WrongReference, WrongType, ExitNamedTwice, TooMany, TooFewWords}
 use Rattle.store.specs.declared.refusals.Refusal.TheVariants.{FigureTooLarge, Never}
 
-abbrev pub refusal-number : Refusal → ℕ
-refusal-number WrongLength = wrong-length
-refusal-number (WrongBlockNumber block) = wrong-block-number
-refusal-number (WrongCheck block) = wrong-check
-refusal-number WrongWordCount = wrong-word-count
-refusal-number (OutOfRange region) = out_of_range
-refusal-number (WrongReference region) = wrong-reference
-refusal-number (WrongType region) = wrong_type
-refusal-number (ExitNamedTwice region) = exit-named-twice
-refusal-number TooMany = too_many
-refusal-number TooFewWords = too-few-words
-refusal-number FigureTooLarge = figure-too-large
-refusal-number (Never region) = never
+abbrev pub refusal_number : Refusal → ℕ
+refusal_number WrongLength = wrong_length
+refusal_number (WrongBlockNumber block) = wrong_block_number
+refusal_number (WrongCheck block) = wrong_check
+refusal_number WrongWordCount = wrong_word_count
+refusal_number (OutOfRange region) = out_of_range
+refusal_number (WrongReference region) = wrong_reference
+refusal_number (WrongType region) = wrong_type
+refusal_number (ExitNamedTwice region) = exit_named_twice
+refusal_number TooMany = too_many
+refusal_number TooFewWords = too_few_words
+refusal_number FigureTooLarge = figure_too_large
+refusal_number (Never region) = never
 
-abbrev pub refusal-word : Refusal → ℕ
-refusal-word WrongLength = 0
-refusal-word (WrongBlockNumber block) = block
-refusal-word (WrongCheck block) = block
-refusal-word WrongWordCount = 0
-refusal-word (OutOfRange region) = region
-refusal-word (WrongReference region) = region
-refusal-word (WrongType region) = region
-refusal-word (ExitNamedTwice region) = region
-refusal-word TooMany = 0
-refusal-word TooFewWords = 0
-refusal-word FigureTooLarge = 0
-refusal-word (Never region) = region
+abbrev pub refusal_word : Refusal → ℕ
+refusal_word WrongLength = 0
+refusal_word (WrongBlockNumber block) = block
+refusal_word (WrongCheck block) = block
+refusal_word WrongWordCount = 0
+refusal_word (OutOfRange region) = region
+refusal_word (WrongReference region) = region
+refusal_word (WrongType region) = region
+refusal_word (ExitNamedTwice region) = region
+refusal_word TooMany = 0
+refusal_word TooFewWords = 0
+refusal_word FigureTooLarge = 0
+refusal_word (Never region) = region
 
 -- The answer that is this refusal.
 abbrev pub refused_as : {A : Type 0} → Refusal → Answer A
-refused_as why = refused (refusal-number why) (refusal-word why)
+refused_as why = refused (refusal_number why) (refusal_word why)

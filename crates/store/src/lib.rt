@@ -1,8 +1,8 @@
 // A store of blocks, checked and loaded into lent words: refusals 1 to 3, and 4 for W.
 ghost use Rattle.std.specs.Prelude.{◌≡◌, ◌++◌, ℕ, ◌+◌, ◌*◌, ◌/◌, ◌≤◌, ◌<◌, length, drop};
-ghost use Rattle.format.specs.Store.{pair, weighted, blocks-checked, word_at, all-zero, count-right, store_words};
-ghost use Rattle.store.specs.Loaded.{load-answered, answered, words-counted, Loads};
-ghost use Rattle.store.specs.Block.{first-wrong, block-checked, byte-place};
+ghost use Rattle.format.specs.Store.{pair, weighted, blocks_checked, word_at, all_zero, count_right, store_words};
+ghost use Rattle.store.specs.Loaded.{load_answered, answered, words_counted, Loads};
+ghost use Rattle.store.specs.Block.{first_wrong, block_checked, byte_place};
 ghost use Rattle.meaning.specs.Lists.{tabulate};
 
 pub mod layout;
@@ -57,7 +57,7 @@ pub fn check_of(bytes: &[u8], at: usize) -> u32
 
 // The refusal of the first test that failed.
 fn first_wrong(first: bool, why: Refusal, second: bool, other: Refusal) -> Verdict
-    ensures { answered result ≡ first-wrong first why second other }
+    ensures { answered result ≡ first_wrong first why second other }
 {
     if !first {
         return Verdict::Refused(why);
@@ -71,7 +71,7 @@ fn first_wrong(first: bool, why: Refusal, second: bool, other: Refusal) -> Verdi
 // One block: its number, then its check.
 fn block_checked(bytes: &[u8], b: usize) -> Verdict
     requires { (b < 16) × (512 * b + 512 ≤ length bytes.now) }
-    ensures { answered result ≡ block-checked bytes.now b }
+    ensures { answered result ≡ block_checked bytes.now b }
 {
     let at = 512 * b;
     let number = pair_at(bytes, at) as usize;
@@ -88,7 +88,7 @@ fn block_checked(bytes: &[u8], b: usize) -> Verdict
 // The blocks in turn, up to the first that is wrong.
 fn blocks_checked(bytes: &[u8], n: usize) -> Verdict
     requires { (n ≤ 16) × (512 * n ≤ length bytes.now) }
-    ensures { answered result ≡ blocks-checked bytes.now n }
+    ensures { answered result ≡ blocks_checked bytes.now n }
 {
     let mut b: usize = 0;
     while b < n {
@@ -104,7 +104,7 @@ fn blocks_checked(bytes: &[u8], n: usize) -> Verdict
 // The byte at which the next word begins: from the last of a block's 253 words, byte 2 of the next block.
 fn next_place(at: usize) -> usize
     requires { at < 8192 }
-    ensures { (j : ℕ) → at ≡ byte-place j → result ≡ byte-place (j + 1) }
+    ensures { (j : ℕ) → at ≡ byte_place j → result ≡ byte_place (j + 1) }
 {
     if at % 512 == 506 {
         return at + 8;
@@ -115,7 +115,7 @@ fn next_place(at: usize) -> usize
 // Whether the words from a place among the words on are zero.
 fn all_zero(bytes: &[u8], from: usize, count: usize) -> bool
     requires { (length bytes.now ≤ 8192) × (from + count ≤ 253 * (length bytes.now / 512)) }
-    ensures { result ≡ all-zero bytes.now from count }
+    ensures { result ≡ all_zero bytes.now from count }
 {
     let mut at = 512 * (from / 253) + 2 + 2 * (from % 253);
     let mut n: usize = 0;
@@ -132,7 +132,7 @@ fn all_zero(bytes: &[u8], from: usize, count: usize) -> bool
 // W against the number of blocks, and the words after W.
 fn count_right(bytes: &[u8], n: usize, w: u16) -> bool
     requires { (length bytes.now ≤ 8192) × (n ≡ length bytes.now / 512) }
-    ensures { result ≡ count-right bytes.now n w }
+    ensures { result ≡ count_right bytes.now n w }
 {
     let used = w as usize;
     if used == 0 {
@@ -146,7 +146,7 @@ fn count_right(bytes: &[u8], n: usize, w: u16) -> bool
 
 // W, or the store's refusal.
 fn words_used(bytes: &[u8]) -> Loaded
-    ensures { load-answered result ≡ words-counted (store_words bytes.now) }
+    ensures { load_answered result ≡ words_counted (store_words bytes.now) }
 {
     let length = bytes.len();
     if length == 0 {

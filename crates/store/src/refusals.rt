@@ -1,6 +1,6 @@
 // The refusals (document 01, "What turns a record away"): each reason with its word, where it has one, and the number that a user reads.
 ghost use Rattle.std.specs.Prelude.{◌≡◌};
-ghost use Rattle.store.specs.Refusals.{refusal-number, refusal-word};
+ghost use Rattle.store.specs.Refusals.{refusal_number, refusal_word};
 
 pub const WRONG_LENGTH: u16 = 1;
 
@@ -45,7 +45,7 @@ pub enum Refusal {
 }
 
 pub fn number(why: Refusal) -> u16
-    ensures { result ≡ refusal-number why }
+    ensures { result ≡ refusal_number why }
 {
     match why {
         Refusal::WrongLength => WRONG_LENGTH,
@@ -64,7 +64,7 @@ pub fn number(why: Refusal) -> u16
 }
 
 pub fn word(why: Refusal) -> u16
-    ensures { result ≡ refusal-word why }
+    ensures { result ≡ refusal_word why }
 {
     match why {
         Refusal::WrongLength => 0,

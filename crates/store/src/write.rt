@@ -1,8 +1,8 @@
 // The record in front of the lent words, written back as blocks (document 02, request 13): refusal 4 for W, and 10.
 ghost use Rattle.std.specs.Prelude.{◌≡◌, ◌+◌, ◌*◌, ◌≤◌, ◌<◌, length, get_or, take, drop};
 ghost use Rattle.std.proofs.lemmas.List.Edits.{sets};
-ghost use Rattle.format.specs.Store.{two_bytes, check-from};
-ghost use Rattle.store.specs.Writes.{WordsPut, with-block, WritesStore};
+ghost use Rattle.format.specs.Store.{two_bytes, check_from};
+ghost use Rattle.store.specs.Writes.{WordsPut, with_block, WritesStore};
 
 use crate::layout::{RECORD_END, WORDS, tells_length, word_at};
 use crate::refusals::Refusal;
@@ -30,7 +30,7 @@ fn record_word(w: &[u16; WORDS], used: usize, p: usize) -> u16
 // What a word adds to the check of a block in which it begins at a byte.
 fn weight(word: u16, place: usize) -> u32
     requires { place < 507 }
-    ensures { (result ≡ check-from place (two_bytes word)) × (result ≤ 259080) }
+    ensures { (result ≡ check_from place (two_bytes word)) × (result ≤ 259080) }
 {
     let low = (word % 256) as u32;
     let high = (word / 256) as u32;
@@ -72,7 +72,7 @@ fn put_words(
 // Block b: its number, its words, its check.
 fn put_block(w: &[u16; WORDS], used: usize, b: usize, out: &mut [u8])
     requires { (b < 16) × (512 * b + 512 ≤ length out.old) }
-    ensures { out.new ≡ with-block b (take used w.now) out.old }
+    ensures { out.new ≡ with_block b (take used w.now) out.old }
 {
     let at = 512 * b;
     let number = (FIRST_NUMBER + b) as u16;

@@ -5,6 +5,6 @@ use Rattle.text.specs.declared.Written.{Written}
 use Rattle.text.specs.declared.Written.TheVariants.{Bytes, Full}
 
 -- All of its bytes, where the buffer has as many; else none.
-abbrev pub size-within : Written → ℕ → ℕ
-size-within (Bytes n) room = pick (leb n room) n 0
-size-within Full room = 0
+abbrev pub size_within : Written → ℕ → ℕ
+size_within (Bytes n) room = pick (leb n room) n 0
+size_within Full room = 0

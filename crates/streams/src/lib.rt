@@ -2,7 +2,7 @@
 ghost use Rattle.std.specs.Prelude.{◌<◌, ◌≡◌, true, length};
 ghost use Rattle.text.specs.declared.Written.TheVariants.{Full};
 ghost use Rattle.io.specs.Counts.{IsPrefixLen};
-ghost use Rattle.streams.specs.Sizes.{size-within};
+ghost use Rattle.streams.specs.Sizes.{size_within};
 
 use libc::STDIN_FILENO;
 use text::Written;
@@ -48,7 +48,7 @@ pub fn read_input(buffer: &mut [u8]) -> Input
 pub fn text_size(written: Written, out: &[u8]) -> usize
     requires { written ≡ Full → ⊥ }
     ensures prefix_len { IsPrefixLen result out.now }
-    ensures value { result ≡ size-within written (length out.now) }
+    ensures value { result ≡ size_within written (length out.now) }
 {
     match written {
         Written::Bytes(n) => {

@@ -11,14 +11,14 @@ abbrev pub buffer : List ℕ → ℕ → Buffer
 buffer bytes place = record { bytes = bytes; place = place }
 
 -- The next byte; one that finds no room is dropped.
-abbrev pub put-byte-at : Buffer → ℕ → Buffer
-put-byte-at o b =
+abbrev pub put_byte_at : Buffer → ℕ → Buffer
+put_byte_at o b =
     buffer (set o.bytes o.place b) (pick (leb o.place (length o.bytes)) (o.place + 1) o.place)
 
 -- The bytes of a text, one after another.
 unfoldable pub puts : Buffer → List ℕ → Buffer
 puts o [] = o
-puts o (b ∷ t) = puts (put-byte-at o b) t
+puts o (b ∷ t) = puts (put_byte_at o b) t
 
 -- What a routine that writes a text makes of the buffer.
 pub record Wrote (o : Buffer) (t : List ℕ) (p : Buffer) : Type 0 where

@@ -9,11 +9,11 @@ unfolding decimal
 labeled label n = ascii label ++ decimal n
 
 -- The texts of the items, one after another.
-unfoldable pub text-of-each : {A : Type 0} → (A → Text) → List A → Text
-text-of-each show [] = []
-text-of-each show (x ∷ xs) = show x ++ text-of-each show xs
+unfoldable pub text_of_each : {A : Type 0} → (A → Text) → List A → Text
+text_of_each show [] = []
+text_of_each show (x ∷ xs) = show x ++ text_of_each show xs
 
 -- A refusal is one line: its number and its word (document 01, "The printed sheet").
-unfoldable pub refusal-text : ℕ → ℕ → Text
+unfoldable pub refusal_text : ℕ → ℕ → Text
 unfolding labeled
-refusal-text n w = labeled "refused " n ++ labeled " " w ++ ascii "\n"
+refusal_text n w = labeled "refused " n ++ labeled " " w ++ ascii "\n"

@@ -5,8 +5,8 @@ use Rattle.text.specs.declared.Written.TheVariants.{Bytes, Full}
 use Rattle.meaning.specs.Lists.{pick}
 
 -- A place beyond the buffer's end says that some byte found no room.
-abbrev pub written-to : ℕ → ℕ → Written
-written-to room place = pick (leb place room) (Bytes place) Full
+abbrev pub written_to : ℕ → ℕ → Written
+written_to room place = pick (leb place room) (Bytes place) Full
 
 -- A text over the front of a buffer, as much of it as finds room.
 abbrev pub over : List ℕ → List ℕ → List ℕ

@@ -2,8 +2,8 @@
 ghost use Rattle.std.specs.Prelude.{◌≡◌, [], ◌∷◌, ◌++◌};
 ghost use Rattle.meaning.specs.Text.{decimal};
 ghost use Rattle.text.specs.Buffer.{buffer, Wrote};
-ghost use Rattle.text.specs.Text.{refusal-text};
-ghost use Rattle.text.specs.Whole.{Whole, written-to};
+ghost use Rattle.text.specs.Text.{refusal_text};
+ghost use Rattle.text.specs.Whole.{Whole, written_to};
 
 // One byte, and the next place. Where the buffer is full the byte is dropped, and the place beyond its end says so.
 pub fn put_byte(out: &mut [u8], at: usize, b: u8) -> usize
@@ -59,7 +59,7 @@ pub enum Written {
 
 // By the place behind a text that was written from the buffer's beginning on.
 pub fn finish(room: usize, place: usize) -> Written
-    ensures { result ≡ written-to room place }
+    ensures { result ≡ written_to room place }
 {
     if place <= room {
         return Written::Bytes(place);
@@ -69,7 +69,7 @@ pub fn finish(room: usize, place: usize) -> Written
 
 // The line of a refusal, from the buffer's beginning on.
 pub fn refusal(number: u16, word: u16, out: &mut [u8]) -> Written
-    ensures { Whole (refusal-text number word) out.old out.new result }
+    ensures { Whole (refusal_text number word) out.old out.new result }
 {
     let mut place = put_labeled(out, 0, b"refused ", number as u32);
     place = put_labeled(out, place, b" ", word as u32);

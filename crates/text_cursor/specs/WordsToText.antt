@@ -8,22 +8,22 @@ use Rattle.text_cursor.specs.declared.cursor.SheetCursor.{SheetCursor}
 use Rattle.text_cursor.specs.Lines.{TextReader}
 
 -- The words from a place on. A place beyond their end says that a word was missing, or was none that may stand there.
-unfoldable pub words-from : List ℕ → ℕ → Decoded Unit
-words-from ws at = pick (leb at (length ws)) (decoded tt (drop at ws)) nothing
+unfoldable pub words_from : List ℕ → ℕ → Decoded Unit
+words_from ws at = pick (leb at (length ws)) (decoded tt (drop at ws)) nothing
 
 -- A reading from there on.
 abbrev pub reading : TextReader → Decoded Unit → Decoded Text
 reading r x = next_word x λ u. r
 
-abbrev pub read-text : Decoded Text → Decoded Unit
-read-text (decoded t ws) = decoded tt ws
-read-text nothing = nothing
+abbrev pub read_text : Decoded Text → Decoded Unit
+read_text (decoded t ws) = decoded tt ws
+read_text nothing = nothing
 
 -- From a cursor and a buffer on: the words are read as the reader says, and what it gives is written. Where it gives nothing the bytes
 -- are left open.
 pub record PutsText (r : TextReader) (ws : List ℕ) (c : SheetCursor) (before after : List ℕ) (d : SheetCursor) : Type 0 where
-  pub words : words-from ws d.at ≡ read-text (reading r (words-from ws c.at))
-  pub bytes : {t : Text} {rest : List ℕ} → reading r (words-from ws c.at) ≡ decoded t rest
+  pub words : words_from ws d.at ≡ read_text (reading r (words_from ws c.at))
+  pub bytes : {t : Text} {rest : List ℕ} → reading r (words_from ws c.at) ≡ decoded t rest
       → Wrote (buffer before c.place) t (buffer after d.place)
   pub ahead : c.at ≤ d.at
 

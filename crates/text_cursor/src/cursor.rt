@@ -2,8 +2,8 @@
 ghost use Rattle.std.specs.Prelude.{List, [], ◌∷◌, ℕ, get_or};
 ghost use Rattle.text.specs.Buffer.{buffer, Wrote};
 ghost use Rattle.nesting.specs.Sheet.{dotted};
-ghost use Rattle.nesting.specs.decoding.Lines.{value-texts};
-ghost use Rattle.text_cursor.specs.Texts.{say, number-text, value-text, skip-text, either-text};
+ghost use Rattle.nesting.specs.decoding.Lines.{value_texts};
+ghost use Rattle.text_cursor.specs.Texts.{say, number_text, value_text, skip_text, either_text};
 ghost use Rattle.text_cursor.specs.WordsToText.{PutsText, Stopped};
 
 use nesting::{BOOL_KIND, CONST_KIND, INPUT_KIND, INSTR_KIND, OUTPUT_KIND, UNDEF_KIND};
@@ -38,7 +38,7 @@ pub fn say(text: &mut [u8], c: SheetCursor, label: &[u8]) -> SheetCursor
 }
 
 pub fn number(words: &[u32], text: &mut [u8], c: SheetCursor) -> SheetCursor
-    ensures { PutsText number-text words.now c text.old text.new result }
+    ensures { PutsText number_text words.now c text.old text.new result }
 {
     let at = c.at;
     if words.len() <= at {
@@ -50,7 +50,7 @@ pub fn number(words: &[u32], text: &mut [u8], c: SheetCursor) -> SheetCursor
 
 // A word for which nothing is shown.
 pub fn skip(words: &[u32], c: SheetCursor) -> SheetCursor
-    ensures { (bytes : List ℕ) → PutsText skip-text words.now c bytes bytes result }
+    ensures { (bytes : List ℕ) → PutsText skip_text words.now c bytes bytes result }
 {
     let at = c.at;
     if words.len() <= at {
@@ -70,7 +70,7 @@ pub fn either(
     zero: &[u8],
     one: &[u8],
 ) -> SheetCursor
-    ensures { PutsText (either-text zero.now one.now)
+    ensures { PutsText (either_text zero.now one.now)
         words.now c text.old text.new result }
 {
     let at = c.at;
@@ -100,7 +100,7 @@ fn put_dotted(text: &mut [u8], at: usize, letter: u8, r: u32, k: u32) -> usize
 }
 
 fn put_value(text: &mut [u8], at: usize, kind: u32, r: u32, k: u32) -> usize
-    ensures { Wrote (buffer text.old at) (get_or (value-texts r k) kind []) (buffer text.new result) }
+    ensures { Wrote (buffer text.old at) (get_or (value_texts r k) kind []) (buffer text.new result) }
 {
     match kind {
         CONST_KIND => put_labeled(text, at, b"c", k),
@@ -120,7 +120,7 @@ fn put_value(text: &mut [u8], at: usize, kind: u32, r: u32, k: u32) -> usize
 
 // A value: kind, region, index.
 pub fn value(words: &[u32], text: &mut [u8], c: SheetCursor) -> SheetCursor
-    ensures { PutsText value-text words.now c text.old text.new result }
+    ensures { PutsText value_text words.now c text.old text.new result }
 {
     let at = c.at;
     if words.len() < 3 {

@@ -1,10 +1,10 @@
 // The fields of a line, and lists of them.
 ghost use Rattle.std.specs.Prelude.{◌≡◌, List, ℕ, get_or, eqb};
-ghost use Rattle.nesting.specs.SheetNumbers.{letter-m};
+ghost use Rattle.nesting.specs.SheetNumbers.{letter_m};
 ghost use Rattle.text_cursor.specs.Texts.{say, ◌then◌};
-ghost use Rattle.text_fields.specs.Fields.{field-within, list-within, field-text, list-text, none-text, item-head};
-ghost use Rattle.text_fields.specs.Fields.{merge-head};
-ghost use Rattle.text_cursor.specs.Texts.{plain-text};
+ghost use Rattle.text_fields.specs.Fields.{field_within, list_within, field_text, list_text, none_text, item_head};
+ghost use Rattle.text_fields.specs.Fields.{merge_head};
+ghost use Rattle.text_cursor.specs.Texts.{plain_text};
 ghost use Rattle.text_cursor.specs.WordsToText.{PutsText, PutsWithin};
 
 use nesting::{LETTER_F, LETTER_M, LETTER_T, LETTER_U};
@@ -20,7 +20,7 @@ pub enum Field {
 
 // An item up to its reads: region.index/opcode/type/
 fn item_head(words: &[u32], text: &mut [u8], c: SheetCursor) -> SheetCursor
-    ensures { PutsText item-head words.now c text.old text.new result }
+    ensures { PutsText item_head words.now c text.old text.new result }
 {
     let mut d = number(words, text, c);
     d = say(text, d, b".");
@@ -34,7 +34,7 @@ fn item_head(words: &[u32], text: &mut [u8], c: SheetCursor) -> SheetCursor
 
 // Whether a condition has parts.
 fn is_merge(words: &[u32], c: SheetCursor) -> bool
-    ensures { result ≡ eqb (get_or words.now c.at 0) letter-m }
+    ensures { result ≡ eqb (get_or words.now c.at 0) letter_m }
 {
     let at = c.at;
     if words.len() <= at {
@@ -45,7 +45,7 @@ fn is_merge(words: &[u32], c: SheetCursor) -> bool
 
 // A condition without parts.
 fn plain_condition(words: &[u32], text: &mut [u8], c: SheetCursor) -> SheetCursor
-    ensures { PutsText plain-text words.now c text.old text.new result }
+    ensures { PutsText plain_text words.now c text.old text.new result }
 {
     let at = c.at;
     if words.len() <= at {
@@ -65,7 +65,7 @@ fn plain_condition(words: &[u32], text: &mut [u8], c: SheetCursor) -> SheetCurso
 
 // A condition up to its parts: m, the node and a bracket.
 fn merge_head(words: &[u32], text: &mut [u8], c: SheetCursor) -> SheetCursor
-    ensures { PutsText merge-head words.now c text.old text.new result }
+    ensures { PutsText merge_head words.now c text.old text.new result }
 {
     let mut d = skip(words, c);
     d = say(text, d, b"m");
@@ -75,7 +75,7 @@ fn merge_head(words: &[u32], text: &mut [u8], c: SheetCursor) -> SheetCursor
 
 #[cycle(put_field_put_list)]
 fn put_field(words: &[u32], text: &mut [u8], c: SheetCursor, kind: Field) -> SheetCursor
-    ensures { PutsWithin 0 (λ depth. field-within depth kind) words.now c text.old text.new result }
+    ensures { PutsWithin 0 (λ depth. field_within depth kind) words.now c text.old text.new result }
 {
     match kind {
         Field::Number => number(words, text, c),
@@ -97,7 +97,7 @@ fn put_field(words: &[u32], text: &mut [u8], c: SheetCursor, kind: Field) -> She
 
 // An empty list: `-`, but nothing between a condition's brackets.
 fn none(text: &mut [u8], c: SheetCursor, kind: Field) -> SheetCursor
-    ensures { (ws : List ℕ) → PutsText (say (none-text kind)) ws c text.old text.new result }
+    ensures { (ws : List ℕ) → PutsText (say (none_text kind)) ws c text.old text.new result }
 {
     match kind {
         Field::Condition => c,
@@ -108,7 +108,7 @@ fn none(text: &mut [u8], c: SheetCursor, kind: Field) -> SheetCursor
 // A count, then as many fields, joined by commas.
 #[cycle(put_field_put_list)]
 fn put_list(words: &[u32], text: &mut [u8], c: SheetCursor, kind: Field) -> SheetCursor
-    ensures { PutsWithin 1 (λ depth. list-within depth kind) words.now c text.old text.new result }
+    ensures { PutsWithin 1 (λ depth. list_within depth kind) words.now c text.old text.new result }
 {
     let at = c.at;
     if words.len() <= at {
@@ -142,7 +142,7 @@ pub fn labeled(
     label: &[u8],
     kind: Field,
 ) -> SheetCursor
-    ensures { PutsText (say label.now then field-text kind)
+    ensures { PutsText (say label.now then field_text kind)
         words.now c text.old text.new result }
 {
     let d = say(text, c, label);
@@ -156,7 +156,7 @@ pub fn listed(
     label: &[u8],
     kind: Field,
 ) -> SheetCursor
-    ensures { PutsText (say label.now then list-text kind)
+    ensures { PutsText (say label.now then list_text kind)
         words.now c text.old text.new result }
 {
     let d = say(text, c, label);

@@ -1,8 +1,8 @@
 // The lines of a sheet.
-ghost use Rattle.nesting.specs.decoding.Decode.{decode-region, decode-block, decode-select, decode-loop, decode-exit, decode-defer};
-ghost use Rattle.nesting.specs.decoding.Decode.{line-by, decode-line};
-ghost use Rattle.text_cursor.specs.Lines.{shown, fields-text, line-text, decode-first, first-text, decoded-sheet-text};
-ghost use Rattle.text_cursor.specs.Texts.{say, ◌then◌, skip-text, target-text, outcome-text};
+ghost use Rattle.nesting.specs.decoding.Decode.{decode_region, decode_block, decode_select, decode_loop, decode_exit, decode_defer};
+ghost use Rattle.nesting.specs.decoding.Decode.{line_by, decode_line};
+ghost use Rattle.text_cursor.specs.Lines.{shown, fields_text, line_text, decode_first, first_text, decoded_sheet_text};
+ghost use Rattle.text_cursor.specs.Texts.{say, ◌then◌, skip_text, target_text, outcome_text};
 ghost use Rattle.text_cursor.specs.WordsToText.{PutsText, PutsOn};
 
 use nesting::{
@@ -13,7 +13,7 @@ use text_cursor::cursor::{SheetCursor, either, number, say, skip, stop};
 use text_fields::fields::{Field, labeled, listed};
 
 fn region(words: &[u32], text: &mut [u8], c: SheetCursor) -> SheetCursor
-    ensures { PutsText (shown fields-text decode-region) words.now c text.old text.new result }
+    ensures { PutsText (shown fields_text decode_region) words.now c text.old text.new result }
 {
     let mut d = labeled(words, text, c, b"region ", Field::Number);
     d = listed(words, text, d, b" in ", Field::Number);
@@ -22,14 +22,14 @@ fn region(words: &[u32], text: &mut [u8], c: SheetCursor) -> SheetCursor
 }
 
 fn block(words: &[u32], text: &mut [u8], c: SheetCursor) -> SheetCursor
-    ensures { PutsText (shown fields-text decode-block) words.now c text.old text.new result }
+    ensures { PutsText (shown fields_text decode_block) words.now c text.old text.new result }
 {
     let d = labeled(words, text, c, b"block ", Field::Number);
     listed(words, text, d, b" ", Field::Item)
 }
 
 fn select(words: &[u32], text: &mut [u8], c: SheetCursor) -> SheetCursor
-    ensures { PutsText (shown fields-text decode-select) words.now c text.old text.new result }
+    ensures { PutsText (shown fields_text decode_select) words.now c text.old text.new result }
 {
     let mut d = labeled(words, text, c, b"select ", Field::Number);
     d = either(words, text, d, b" bool", b" num");
@@ -39,7 +39,7 @@ fn select(words: &[u32], text: &mut [u8], c: SheetCursor) -> SheetCursor
 }
 
 fn loop_line(words: &[u32], text: &mut [u8], c: SheetCursor) -> SheetCursor
-    ensures { PutsText (shown fields-text decode-loop) words.now c text.old text.new result }
+    ensures { PutsText (shown fields_text decode_loop) words.now c text.old text.new result }
 {
     let mut d = labeled(words, text, c, b"loop ", Field::Number);
     d = listed(words, text, d, b" in ", Field::Value);
@@ -48,7 +48,7 @@ fn loop_line(words: &[u32], text: &mut [u8], c: SheetCursor) -> SheetCursor
 }
 
 fn exit(words: &[u32], text: &mut [u8], c: SheetCursor) -> SheetCursor
-    ensures { PutsText (shown fields-text decode-exit) words.now c text.old text.new result }
+    ensures { PutsText (shown fields_text decode_exit) words.now c text.old text.new result }
 {
     let mut d = labeled(words, text, c, b"exit ", Field::Number);
     d = labeled(words, text, d, b" ", Field::Number);
@@ -57,7 +57,7 @@ fn exit(words: &[u32], text: &mut [u8], c: SheetCursor) -> SheetCursor
 
 // The target Return is 65,535.
 fn target(words: &[u32], text: &mut [u8], c: SheetCursor) -> SheetCursor
-    ensures { PutsText target-text words.now c text.old text.new result }
+    ensures { PutsText target_text words.now c text.old text.new result }
 {
     let at = c.at;
     if words.len() <= at {
@@ -74,7 +74,7 @@ fn target(words: &[u32], text: &mut [u8], c: SheetCursor) -> SheetCursor
 }
 
 fn defer(words: &[u32], text: &mut [u8], c: SheetCursor) -> SheetCursor
-    ensures { PutsText (shown fields-text decode-defer) words.now c text.old text.new result }
+    ensures { PutsText (shown fields_text decode_defer) words.now c text.old text.new result }
 {
     let mut d = labeled(words, text, c, b"defer ", Field::Number);
     d = say(text, d, b" to ");
@@ -86,7 +86,7 @@ fn defer(words: &[u32], text: &mut [u8], c: SheetCursor) -> SheetCursor
 
 // By the word that leads the line.
 fn line_by(words: &[u32], text: &mut [u8], c: SheetCursor, lead: u32) -> SheetCursor
-    ensures { PutsText (shown fields-text (line-by lead)) words.now c text.old text.new result }
+    ensures { PutsText (shown fields_text (line_by lead)) words.now c text.old text.new result }
 {
     match lead {
         LEAD_REGION => region(words, text, c),
@@ -100,7 +100,7 @@ fn line_by(words: &[u32], text: &mut [u8], c: SheetCursor, lead: u32) -> SheetCu
 }
 
 pub fn put_line(words: &[u32], text: &mut [u8], c: SheetCursor) -> SheetCursor
-    ensures { PutsOn (shown line-text decode-line) words.now c text.old text.new result }
+    ensures { PutsOn (shown line_text decode_line) words.now c text.old text.new result }
 {
     let at = c.at;
     if words.len() <= at {
@@ -116,7 +116,7 @@ pub fn put_line(words: &[u32], text: &mut [u8], c: SheetCursor) -> SheetCursor
 
 // A word that is not shown, and a label.
 fn unshown(words: &[u32], text: &mut [u8], c: SheetCursor, label: &[u8]) -> SheetCursor
-    ensures { PutsText (skip-text then say label.now) words.now c text.old text.new result }
+    ensures { PutsText (skip_text then say label.now) words.now c text.old text.new result }
 {
     let d = skip(words, c);
     say(text, d, label)
@@ -124,7 +124,7 @@ fn unshown(words: &[u32], text: &mut [u8], c: SheetCursor, label: &[u8]) -> Shee
 
 // The outcome and its figure, which exists for whole and closed.
 fn outcome(words: &[u32], text: &mut [u8], c: SheetCursor) -> SheetCursor
-    ensures { PutsText outcome-text words.now c text.old text.new result }
+    ensures { PutsText outcome_text words.now c text.old text.new result }
 {
     let at = c.at;
     if words.len() <= at {
@@ -144,7 +144,7 @@ fn outcome(words: &[u32], text: &mut [u8], c: SheetCursor) -> SheetCursor
 }
 
 pub fn put_first_line(words: &[u32], text: &mut [u8], c: SheetCursor) -> SheetCursor
-    ensures { PutsText (shown first-text decode-first) words.now c text.old text.new result }
+    ensures { PutsText (shown first_text decode_first) words.now c text.old text.new result }
 {
     let mut d = outcome(words, text, c);
     d = labeled(words, text, d, b" attempts ", Field::Number);
@@ -153,7 +153,7 @@ pub fn put_first_line(words: &[u32], text: &mut [u8], c: SheetCursor) -> SheetCu
 
 // Line 1, then the other lines to the last word.
 pub fn put_sheet(words: &[u32], text: &mut [u8]) -> SheetCursor
-    ensures { PutsText decoded-sheet-text
+    ensures { PutsText decoded_sheet_text
         words.now (record { at = 0; place = 0 }) text.old text.new result }
 {
     let mut c = put_first_line(words, text, SheetCursor { at: 0, place: 0 });

@@ -3,10 +3,10 @@ ghost use Rattle.std.specs.Prelude.{◌+◌, ◌≤◌};
 ghost use Rattle.meaning.specs.Graph.{region};
 ghost use Rattle.meaning.specs.Text.{listed};
 ghost use Rattle.record.specs.Stands.{OfRecord};
-ghost use Rattle.fields.specs.ByNumber.{block_of, instr-of};
+ghost use Rattle.fields.specs.ByNumber.{block_of, instr_of};
 ghost use Rattle.text.specs.Buffer.{buffer, Wrote};
-ghost use Rattle.text_parts.specs.Listing.{item-listing, items-text, block-text};
-ghost use Rattle.text_parts.specs.Listing.{blocks-text};
+ghost use Rattle.text_parts.specs.Listing.{item_listing, items_text, block_text};
+ghost use Rattle.text_parts.specs.Listing.{blocks_text};
 
 use super::lists::{Values, put_dotted, put_values};
 use store::WORDS;
@@ -15,7 +15,7 @@ use text::{put_byte, put_labeled, put_text};
 // Instruction i of block b, which has number k in its region.
 fn put_item(w: &[u16; WORDS], out: &mut [u8], at: usize, r: u16, b: u16, i: u16, k: u32) -> usize
     ensures { OfRecord w.now (λ g.
-        Wrote (buffer out.old at) (item-listing r k (instr-of g r b i)) (buffer out.new result)) }
+        Wrote (buffer out.old at) (item_listing r k (instr_of g r b i)) (buffer out.new result)) }
 {
     let x = fields::instruction(w, r, b, i);
     let mut place = put_dotted(out, at, r, k);
@@ -30,7 +30,7 @@ fn put_item(w: &[u16; WORDS], out: &mut [u8], at: usize, r: u16, b: u16, i: u16,
 fn put_items(w: &[u16; WORDS], out: &mut [u8], at: usize, r: u16, b: u16, k: u32) -> usize
     requires { k ≤ 4294901760 }
     ensures { OfRecord w.now (λ g.
-        Wrote (buffer out.old at) (listed (λ t. t) (items-text r k (block_of g r b))) (buffer out.new result)) }
+        Wrote (buffer out.old at) (listed (λ t. t) (items_text r k (block_of g r b))) (buffer out.new result)) }
 {
     let n = fields::block_length(w, r, b);
     if n == 0 {
@@ -49,7 +49,7 @@ fn put_items(w: &[u16; WORDS], out: &mut [u8], at: usize, r: u16, b: u16, k: u32
 fn put_block(w: &[u16; WORDS], out: &mut [u8], at: usize, r: u16, b: u16, k: u32) -> usize
     requires { k ≤ 4294901760 }
     ensures { OfRecord w.now (λ g.
-        Wrote (buffer out.old at) (block-text r k (block_of g r b)) (buffer out.new result)) }
+        Wrote (buffer out.old at) (block_text r k (block_of g r b)) (buffer out.new result)) }
 {
     let mut place = put_text(out, at, b"block ");
     place = put_items(w, out, place, r, b, k);
@@ -58,7 +58,7 @@ fn put_block(w: &[u16; WORDS], out: &mut [u8], at: usize, r: u16, b: u16, k: u32
 
 pub fn put_blocks(w: &[u16; WORDS], out: &mut [u8], at: usize, r: u16) -> usize
     ensures { OfRecord w.now (λ g.
-        Wrote (buffer out.old at) (blocks-text r 0 (region g r).blocks) (buffer out.new result)) }
+        Wrote (buffer out.old at) (blocks_text r 0 (region g r).blocks) (buffer out.new result)) }
 {
     let n = fields::block_count(w, r);
     let mut place = at;

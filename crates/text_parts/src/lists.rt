@@ -2,9 +2,9 @@
 ghost use Rattle.std.specs.Prelude.{◌≡◌, ◌∷◌, length, get_or};
 ghost use Rattle.meaning.specs.Graph.{no_value};
 ghost use Rattle.record.specs.Stands.{OfRecord};
-ghost use Rattle.fields.specs.Shape.{value-is};
+ghost use Rattle.fields.specs.Shape.{value_is};
 ghost use Rattle.text.specs.Buffer.{buffer, Wrote};
-ghost use Rattle.text_parts.specs.Listing.{dotted-text, value-listing, numbers-text, values-text};
+ghost use Rattle.text_parts.specs.Listing.{dotted_text, value_listing, numbers_text, values_text};
 ghost use Rattle.text_parts.specs.Parts.{numbers_of, list_of};
 
 use fields::Value;
@@ -44,7 +44,7 @@ fn number_item(w: &[u16; WORDS], l: Numbers, k: u16) -> u16
 
 pub fn put_numbers(w: &[u16; WORDS], out: &mut [u8], at: usize, l: Numbers) -> usize
     ensures { OfRecord w.now (λ g.
-        Wrote (buffer out.old at) (numbers-text (numbers_of g l)) (buffer out.new result)) }
+        Wrote (buffer out.old at) (numbers_text (numbers_of g l)) (buffer out.new result)) }
 {
     let n = number_count(w, l);
     if n == 0 {
@@ -61,21 +61,21 @@ pub fn put_numbers(w: &[u16; WORDS], out: &mut [u8], at: usize, l: Numbers) -> u
 
 // A region's number and a place in it.
 pub fn put_dotted(out: &mut [u8], at: usize, r: u16, k: u32) -> usize
-    ensures { Wrote (buffer out.old at) (dotted-text r k) (buffer out.new result) }
+    ensures { Wrote (buffer out.old at) (dotted_text r k) (buffer out.new result) }
 {
     let place = put_number(out, at, r as u32);
     put_labeled(out, place, b".", k)
 }
 
 fn put_of_region(out: &mut [u8], at: usize, letter: u8, r: u16, k: u16) -> usize
-    ensures { Wrote (buffer out.old at) (letter ∷ dotted-text r k) (buffer out.new result) }
+    ensures { Wrote (buffer out.old at) (letter ∷ dotted_text r k) (buffer out.new result) }
 {
     let place = put_byte(out, at, letter);
     put_dotted(out, place, r, k as u32)
 }
 
 pub fn put_value(out: &mut [u8], at: usize, v: Value) -> usize
-    ensures { Wrote (buffer out.old at) (value-listing (value-is v)) (buffer out.new result) }
+    ensures { Wrote (buffer out.old at) (value_listing (value_is v)) (buffer out.new result) }
 {
     match v {
         Value::Const(i) => put_labeled(out, at, b"c", i as u32),
@@ -114,7 +114,7 @@ fn value_count(w: &[u16; WORDS], l: Values) -> u16
 }
 
 fn value_item(w: &[u16; WORDS], l: Values, k: u16) -> Value
-    ensures { OfRecord w.now (λ g. value-is result ≡ get_or (list_of g l) k no_value) }
+    ensures { OfRecord w.now (λ g. value_is result ≡ get_or (list_of g l) k no_value) }
 {
     match l {
         Values::Terminator(r) => fields::value(w, r, k),
@@ -125,7 +125,7 @@ fn value_item(w: &[u16; WORDS], l: Values, k: u16) -> Value
 
 pub fn put_values(w: &[u16; WORDS], out: &mut [u8], at: usize, l: Values) -> usize
     ensures { OfRecord w.now (λ g.
-        Wrote (buffer out.old at) (values-text (list_of g l)) (buffer out.new result)) }
+        Wrote (buffer out.old at) (values_text (list_of g l)) (buffer out.new result)) }
 {
     let n = value_count(w, l);
     if n == 0 {

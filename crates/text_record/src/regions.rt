@@ -1,14 +1,14 @@
 // The lines of the regions.
 ghost use Rattle.std.specs.Prelude.{◌++◌, get_or};
-ghost use Rattle.meaning.specs.Graph.{no_value, region, edges-of, targets_of};
+ghost use Rattle.meaning.specs.Graph.{no_value, region, edges_of, targets_of};
 ghost use Rattle.meaning.specs.Text.{ascii};
 ghost use Rattle.record.specs.Stands.{OfRecord};
-ghost use Rattle.fields.specs.ByNumber.{end-values, edge_of, stands-before};
+ghost use Rattle.fields.specs.ByNumber.{end_values, edge_of, stands_before};
 ghost use Rattle.text.specs.Buffer.{buffer, Wrote};
-ghost use Rattle.text_parts.specs.Parts.{pass-once};
-ghost use Rattle.text_parts.specs.Listing.{value-listing, numbers-text, values-text};
-ghost use Rattle.text_parts.specs.Listing.{terminator-text, pass-text, passes-text, region-line-text, exits-line, region-text};
-ghost use Rattle.text_parts.specs.Listing.{regions-text};
+ghost use Rattle.text_parts.specs.Parts.{pass_once};
+ghost use Rattle.text_parts.specs.Listing.{value_listing, numbers_text, values_text};
+ghost use Rattle.text_parts.specs.Listing.{terminator_text, pass_text, passes_text, region_line_text, exits_line, region_text};
+ghost use Rattle.text_parts.specs.Listing.{regions_text};
 
 use fields::Terminator;
 use store::WORDS;
@@ -19,7 +19,7 @@ use text_parts::lists::{Numbers, Values, put_numbers, put_value, put_values};
 // A label and the terminator's values, to the line's end.
 fn put_end_values(w: &[u16; WORDS], out: &mut [u8], at: usize, label: &[u8], r: u16) -> usize
     ensures { OfRecord w.now (λ g.
-        Wrote (buffer out.old at) (label.now ++ values-text (end-values g r) ++ ascii "\n")
+        Wrote (buffer out.old at) (label.now ++ values_text (end_values g r) ++ ascii "\n")
         (buffer out.new result)) }
 {
     let mut place = put_text(out, at, label);
@@ -30,7 +30,7 @@ fn put_end_values(w: &[u16; WORDS], out: &mut [u8], at: usize, label: &[u8], r: 
 fn put_select(w: &[u16; WORDS], out: &mut [u8], at: usize, label: &[u8], r: u16) -> usize
     ensures { OfRecord w.now (λ g.
         Wrote (buffer out.old at)
-        (label.now ++ value-listing (get_or (end-values g r) 0 no_value) ++ ascii " to " ++ numbers-text (targets_of g r)
+        (label.now ++ value_listing (get_or (end_values g r) 0 no_value) ++ ascii " to " ++ numbers_text (targets_of g r)
         ++ ascii "\n")
         (buffer out.new result)) }
 {
@@ -43,7 +43,7 @@ fn put_select(w: &[u16; WORDS], out: &mut [u8], at: usize, label: &[u8], r: u16)
 
 fn put_terminator(w: &[u16; WORDS], out: &mut [u8], at: usize, r: u16) -> usize
     ensures { OfRecord w.now (λ g.
-        Wrote (buffer out.old at) (terminator-text (region g r).terminator) (buffer out.new result)) }
+        Wrote (buffer out.old at) (terminator_text (region g r).terminator) (buffer out.new result)) }
 {
     match fields::terminator(w, r) {
         Terminator::Unreachable => put_text(out, at, b"unreachable\n"),
@@ -64,7 +64,7 @@ fn put_terminator(w: &[u16; WORDS], out: &mut [u8], at: usize, r: u16) -> usize
 // The values passed to the target at place j.
 fn put_pass(w: &[u16; WORDS], out: &mut [u8], at: usize, r: u16, j: u16) -> usize
     ensures { OfRecord w.now (λ g.
-        Wrote (buffer out.old at) (pass-text (edge_of g r j)) (buffer out.new result)) }
+        Wrote (buffer out.old at) (pass_text (edge_of g r j)) (buffer out.new result)) }
 {
     let mut place = put_labeled(out, at, b"pass ", fields::target(w, r, j) as u32);
     place = put_text(out, place, b" in ");
@@ -75,7 +75,7 @@ fn put_pass(w: &[u16; WORDS], out: &mut [u8], at: usize, r: u16, j: u16) -> usiz
 // The same, unless that target stood before.
 fn put_pass_once(w: &[u16; WORDS], out: &mut [u8], at: usize, r: u16, j: u16) -> usize
     ensures { OfRecord w.now (λ g.
-        Wrote (buffer out.old at) (pass-once (stands-before (targets_of g r) j) (edge_of g r j))
+        Wrote (buffer out.old at) (pass_once (stands_before (targets_of g r) j) (edge_of g r j))
         (buffer out.new result)) }
 {
     if fields::target_again(w, r, j) {
@@ -87,7 +87,7 @@ fn put_pass_once(w: &[u16; WORDS], out: &mut [u8], at: usize, r: u16, j: u16) ->
 // Each distinct target, by first standing.
 fn put_passes(w: &[u16; WORDS], out: &mut [u8], at: usize, r: u16) -> usize
     ensures { OfRecord w.now (λ g.
-        Wrote (buffer out.old at) (passes-text (edges-of (region g r).terminator)) (buffer out.new result)) }
+        Wrote (buffer out.old at) (passes_text (edges_of (region g r).terminator)) (buffer out.new result)) }
 {
     let n = fields::target_count(w, r);
     let mut place = at;
@@ -102,7 +102,7 @@ fn put_passes(w: &[u16; WORDS], out: &mut [u8], at: usize, r: u16) -> usize
 // A region's first line: its inputs' types and its turn limit.
 fn put_region_head(w: &[u16; WORDS], out: &mut [u8], at: usize, r: u16) -> usize
     ensures { OfRecord w.now (λ g.
-        Wrote (buffer out.old at) (region-line-text r (region g r)) (buffer out.new result)) }
+        Wrote (buffer out.old at) (region_line_text r (region g r)) (buffer out.new result)) }
 {
     let mut place = put_labeled(out, at, b"region ", r as u32);
     place = put_text(out, place, b" in ");
@@ -113,7 +113,7 @@ fn put_region_head(w: &[u16; WORDS], out: &mut [u8], at: usize, r: u16) -> usize
 
 fn put_exits(w: &[u16; WORDS], out: &mut [u8], at: usize, r: u16) -> usize
     ensures { OfRecord w.now (λ g.
-        Wrote (buffer out.old at) (exits-line (region g r).exits) (buffer out.new result)) }
+        Wrote (buffer out.old at) (exits_line (region g r).exits) (buffer out.new result)) }
 {
     let mut place = put_text(out, at, b"exits ");
     place = put_numbers(w, out, place, Numbers::Exits(r));
@@ -122,7 +122,7 @@ fn put_exits(w: &[u16; WORDS], out: &mut [u8], at: usize, r: u16) -> usize
 
 fn put_region(w: &[u16; WORDS], out: &mut [u8], at: usize, r: u16) -> usize
     ensures { OfRecord w.now (λ g.
-        Wrote (buffer out.old at) (region-text r (region g r)) (buffer out.new result)) }
+        Wrote (buffer out.old at) (region_text r (region g r)) (buffer out.new result)) }
 {
     let mut place = put_region_head(w, out, at, r);
     place = put_blocks(w, out, place, r);
@@ -133,7 +133,7 @@ fn put_region(w: &[u16; WORDS], out: &mut [u8], at: usize, r: u16) -> usize
 
 pub fn put_regions(w: &[u16; WORDS], out: &mut [u8], at: usize) -> usize
     ensures { OfRecord w.now (λ g.
-        Wrote (buffer out.old at) (regions-text 0 g.regions) (buffer out.new result)) }
+        Wrote (buffer out.old at) (regions_text 0 g.regions) (buffer out.new result)) }
 {
     let n = fields::region_count(w);
     let mut place = at;

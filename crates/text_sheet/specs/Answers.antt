@@ -5,7 +5,7 @@ use Rattle.meaning.specs.Text.{Text}
 use Rattle.text.specs.declared.Written.{Written}
 use Rattle.text.specs.declared.Written.TheVariants.{Bytes}
 use Rattle.text.specs.Whole.{Whole, over}
-use Rattle.nesting.specs.decoding.Decode.{Decoded, decoded, nothing, words-text}
+use Rattle.nesting.specs.decoding.Decode.{Decoded, decoded, nothing, words_text}
 use Rattle.text_sheet.specs.declared.Printed.{Printed}
 use Rattle.text_sheet.specs.declared.Printed.TheVariants.{Line, Full, NoLine}
 use Rattle.text_cursor.specs.Lines.{TextReader}
@@ -16,18 +16,18 @@ text_of (decoded t rest) = t
 text_of nothing = []
 
 -- A line is answered with the place of the next word and its bytes.
-abbrev pub line-answer : List ℕ → ℕ → Decoded Text → Printed
-line-answer words room (decoded t rest) = pick (leb (length t) room) (Line (length words - length rest) (length t)) Full
-line-answer words room nothing = NoLine
+abbrev pub line_answer : List ℕ → ℕ → Decoded Text → Printed
+line_answer words room (decoded t rest) = pick (leb (length t) room) (Line (length words - length rest) (length t)) Full
+line_answer words room nothing = NoLine
 
 -- The line that a reader gives of the words from a place on. Its text stands in front of the buffer, as much of it as finds room, and the
 -- rest is as lent. Sixteen bytes for each word are always room enough.
 pub record LinePrinted (read : TextReader) (words : List ℕ) (at : ℕ) (before after : List ℕ) (r : Printed) : Type 0 where
-  pub answer : r ≡ line-answer words (length before) (read (drop at words))
+  pub answer : r ≡ line_answer words (length before) (read (drop at words))
   pub bytes : after ≡ over (text_of (read (drop at words))) before
   pub fits : 16 * (length words - at) ≤ length before → r ≡ Full → ⊥
 
 -- The sheet that the words are, likewise; no text where they are none.
 pub record SheetPrinted (words before after : List ℕ) (r : Written) : Type 0 where
-  pub text : Whole (words-text words) before after r
-  pub fits : 16 * length words ≤ length before → r ≡ Bytes (length (words-text words))
+  pub text : Whole (words_text words) before after r
+  pub fits : 16 * length words ≤ length before → r ≡ Bytes (length (words_text words))

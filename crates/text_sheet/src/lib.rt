@@ -1,9 +1,9 @@
 // The words of a sheet as its printed lines, in a lent buffer (document 01, "The printed sheet").
 ghost use Rattle.std.specs.Prelude.{◌≡◌, take, leb};
 ghost use Rattle.meaning.specs.Lists.{pick};
-ghost use Rattle.nesting.specs.decoding.Decode.{decode-line};
+ghost use Rattle.nesting.specs.decoding.Decode.{decode_line};
 ghost use Rattle.text_sheet.specs.declared.Printed.TheVariants.{Line, Full};
-ghost use Rattle.text_cursor.specs.Lines.{shown, line-text, decode-first, first-text};
+ghost use Rattle.text_cursor.specs.Lines.{shown, line_text, decode_first, first_text};
 ghost use Rattle.text_sheet.specs.Answers.{LinePrinted, SheetPrinted};
 
 use text::Written;
@@ -30,7 +30,7 @@ fn answer(room: usize, end: SheetCursor) -> Printed
 
 // Line 1, by the first four words. Whether they are such a line is tried first, in a buffer that keeps nothing of it.
 pub fn first_line(words: &[u32], text: &mut [u8]) -> Printed
-    ensures { LinePrinted (shown first-text decode-first) words.now 0 text.old text.new result }
+    ensures { LinePrinted (shown first_text decode_first) words.now 0 text.old text.new result }
 {
     let start = SheetCursor { at: 0, place: 0 };
     let mut none = [0u8; 1];
@@ -44,7 +44,7 @@ pub fn first_line(words: &[u32], text: &mut [u8]) -> Printed
 
 // Another line, whose words begin at a place.
 pub fn line(words: &[u32], at: usize, text: &mut [u8]) -> Printed
-    ensures { LinePrinted (shown line-text decode-line) words.now at text.old text.new result }
+    ensures { LinePrinted (shown line_text decode_line) words.now at text.old text.new result }
 {
     let start = SheetCursor { at, place: 0 };
     let mut none = [0u8; 1];

@@ -6,11 +6,11 @@ use Rattle.text.specs.declared.Written.TheVariants.{Bytes}
 use Rattle.text.specs.Whole.{Whole}
 use Rattle.accept.specs.declared.Accepted.{Accepted}
 use Rattle.accept.specs.Accepts.{Accepts}
-use Rattle.text_parts.specs.Listing.{shown-text}
+use Rattle.text_parts.specs.Listing.{shown_text}
 
 -- The text is that of the definition's answer; the lent words are as accepting the store leaves them. 65,536 bytes are always room enough.
 pub record Shows (s old new before after : List ℕ) (r : Written) : Type 0 where
-  pub text : Whole (shown-text (accept s)) before after r
-  pub fits : 65536 ≤ length before → r ≡ Bytes (length (shown-text (accept s)))
+  pub text : Whole (shown_text (accept s)) before after r
+  pub fits : 65536 ≤ length before → r ≡ Bytes (length (shown_text (accept s)))
   pub verdict : Accepted
   pub words : Accepts s old new verdict

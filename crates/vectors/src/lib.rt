@@ -1,9 +1,9 @@
 // A list of vectors, read byte by byte. A vector is a line with a word and a store's bytes in hex, the lines of its answer,
 // and a line with a dot.
 ghost use Rattle.std.specs.Prelude.{◌≡◌, ◌≤◌, ◌<◌, length};
-ghost use Rattle.vectors.specs.Parts.{behind, hex-digit, hex-byte};
-ghost use Rattle.vectors.specs.Reading.{Decodes, at-start, ends_at, KeptSoFar, counted_of};
-ghost use Rattle.vectors.specs.Tally.{one-more-told, told_of};
+ghost use Rattle.vectors.specs.Parts.{behind, hex_digit, hex_byte};
+ghost use Rattle.vectors.specs.Reading.{Decodes, at_start, ends_at, KeptSoFar, counted_of};
+ghost use Rattle.vectors.specs.Tally.{one_more_told, told_of};
 
 // The bytes of a vector that are kept; a longer one never agrees. So many digits give half as many bytes.
 pub const TEXT: usize = 65536;
@@ -44,7 +44,7 @@ pub fn behind(text: &[u8], b: u8) -> usize
 
 // A hex digit, with small letters.
 fn digit(b: u8) -> u8
-    ensures { (result ≡ hex-digit b) × (result < 16) }
+    ensures { (result ≡ hex_digit b) × (result < 16) }
 {
     if b < 58 {
         return b % 16;
@@ -54,7 +54,7 @@ fn digit(b: u8) -> u8
 
 // The byte of two digits.
 fn byte(high: u8, low: u8) -> u8
-    ensures { result ≡ hex-byte high low }
+    ensures { result ≡ hex_byte high low }
 {
     16 * digit(high) + digit(low)
 }
@@ -74,7 +74,7 @@ pub fn decode(digits: &[u8], bytes: &mut [u8; STORE]) -> usize
 }
 
 pub fn start() -> VectorReader
-    ensures { result ≡ at-start }
+    ensures { result ≡ at_start }
 {
     let none = Tally {
         agree: 0,
@@ -117,7 +117,7 @@ pub fn keep(r: VectorReader, b: u8, text: &mut [u8; TEXT]) -> VectorReader
 }
 
 fn more(n: u32) -> u32
-    ensures { result ≡ one-more-told n }
+    ensures { result ≡ one_more_told n }
 {
     if n < 4294967295 {
         return n + 1;

@@ -1,6 +1,6 @@
 -- The answer is that of `accept`, as a number.
 use borrow.Author.Rules.{rules}
-use Rattle.c_interface.specs.laws.Exporting.{record-exported, refusal-exported}
+use Rattle.c_interface.specs.laws.Exporting.{record_exported, refusal_exported}
 use Rattle.c_interface.proofs.accept_in_words.Statement.{statement}
 use Rattle.c_interface.proofs.accept_in_words.Tie as tie
 
@@ -26,12 +26,12 @@ add-result : tie.Need-overflow-add-result
 add-result c = search rules
 
 returns : tie.Need-returns
-returns c = record-exported _ _ _ (rw c.enum_told.given.1 at c.before.before.accept.ensures)
+returns c = record_exported _ _ _ (rw c.enum_told.given.1 at c.before.before.accept.ensures)
 
-returns-2 : tie.Need-returns-2
-returns-2 c =
+returns_2 : tie.Need-returns-2
+returns_2 c =
     let at-accept = c.before.before.before.before.before in
-    refusal-exported _ _ _ c.before.wide.ensures.0 c.wide2.ensures.0 c.wide2.ensures.1
+    refusal_exported _ _ _ c.before.wide.ensures.0 c.wide2.ensures.0 c.wide2.ensures.1
     (rw c.before.before.before.answer.given.1 at at-accept.accept.ensures)
 
 pub accept-in-words-spec : {M : Type 1} → statement M
@@ -46,4 +46,4 @@ accept-in-words-spec =
     wide-requires-2
     add-result
     returns
-    returns-2)
+    returns_2)

@@ -1,4 +1,4 @@
-use Rattle.c_interface.specs.laws.ExportingNest.{sheet-exported, refusal-exported}
+use Rattle.c_interface.specs.laws.ExportingNest.{sheet_exported, refusal_exported}
 use borrow.Author.Rules.{rules}
 use Rattle.c_interface.proofs.nest_in_words.Statement.{statement}
 use Rattle.c_interface.proofs.nest_in_words.Tie as tie
@@ -39,15 +39,15 @@ same_length c = search rules
 returns : tie.Need-returns
 returns c =
     let d = c.before.before.before.before.before.before in
-    sheet-exported _ _ _ _ _ c.long.ensures.0 (rw c.before.before.answer.given.1 at d.nest.ensures)
+    sheet_exported _ _ _ _ _ c.long.ensures.0 (rw c.before.before.answer.given.1 at d.nest.ensures)
 
 same-length-2 : tie.Need-same-length-2
 same-length-2 c = search rules
 
-returns-2 : tie.Need-returns-2
-returns-2 c =
+returns_2 : tie.Need-returns-2
+returns_2 c =
     let d = c.before.before.before.before.before in
-    refusal-exported _ _ _ _ _ c.before.before.before.wide.ensures.0 c.before.before.long2.ensures.0
+    refusal_exported _ _ _ _ _ c.before.before.before.wide.ensures.0 c.before.before.long2.ensures.0
     c.before.wide2.ensures.0 c.long3.ensures.0 c.long3.ensures.1
     (rw d.answer2.given.1 at d.before.before.before.before.nest.ensures)
 
@@ -68,4 +68,4 @@ nest-in-words-spec =
     same_length
     returns
     same-length-2
-    returns-2)
+    returns_2)

@@ -42,7 +42,7 @@ use Rattle.c_interface.specs.Exported.{AcceptExported}
 use Rattle.state_lent.specs.declared.NestState.{NestState}
 use Rattle.state_lent.specs.contracts.NestState as T
 use Rattle.state_lent.proofs.Answered.{answered}
-use Rattle.state_lent.proofs.StateWords.{Words, with-words, OwnsState, words-at, words-pointer, lend-words, words_back}
+use Rattle.state_lent.proofs.StateWords.{Words, with_words, OwnsState, words_at, words_pointer, lend_words, words_back}
 use Rattle.c_interface.specs.contracts.accept_in_words as g
 use Rattle.c_interface.proofs.accept_in_words.Symbol as g-def
 use Rattle.c_interface.proofs.accept_in_words.Symbol.{name as #g}
@@ -86,10 +86,10 @@ module _ {M : Type 1} {𝓤 : Ura M} (𝓛 : Logic 𝓤) (at_mem : Memory → SP
 
   -- What is passed on.
   abbrev args-on : (ν : ℕ) → GName → Args g.signature (lifetimes (ν ∷ []))
-  args-on ν δ = (bytes, (words-at b o δ h.words, tt))
+  args-on ν δ = (bytes, (words_at b o δ h.words, tt))
 
   abbrev vals-on : (ν : ℕ) → Vals g.signature (lifetimes (ν ∷ []))
-  vals-on ν = (v_bytes ∷ [], (words-pointer b o, tt))
+  vals-on ν = (v_bytes ∷ [], (words_pointer b o, tt))
 
   abbrev bound : ℕ → GName → (Callee 𝓛 at_mem run).Ghost
   bound ν δ = ((lifetimes (ν ∷ []), shares full_share, tt, args-on ν δ, vals-on ν), tt)
@@ -108,14 +108,14 @@ module _ {M : Type 1} {𝓤 : Ura M} (𝓛 : Logic 𝓤) (at_mem : Memory → SP
 
   -- What is left of it all at the end.
   abbrev Left : (w : Val) (r : ℕ) (l : List ℕ) → List (Item 𝓤)
-  Left w r l = Tokens κ₁ q₁ ∷ ‵ (OwnsState (named 1) κ₁ b o γ (with-words h l)) ∷ OwnsBytes ∷ ‵ (u32.own_val r (w ∷ [])) ∷ []
+  Left w r l = Tokens κ₁ q₁ ∷ ‵ (OwnsState (named 1) κ₁ b o γ (with_words h l)) ∷ OwnsBytes ∷ ‵ (u32.own_val r (w ∷ [])) ∷ []
 
   exits : (w : Val) (r : ℕ) (l : List ℕ) → AcceptExported bytes.now h.words l r
       → ent 𝓤 (⋆ 𝓛 (Left w r l)) (Post w)
   exits w r l e =
       qed 𝓛 (Left w r l) ∵ suffices ! _
       (ends_at 𝓛 f.ended stayed (f.clauses 𝓛 at_mem run) ((lifetimes κ₁, shares q₁, tt, args, vals), tt) w r
-      (tt, (with-words h l, tt)) (tt, (tt, tt))) $
+      (tt, (with_words h l, tt)) (tt, (tt, tt))) $
       says ! e $ frame ! $ nothing ! $ move ! (1 ∷ []) $ fjoin ! $ move ! (1 ∷ []) $ fjoin ! $ done !
 
   module _ (C : Calls 𝓤 H) (Λ : Loops 𝓤 H) (fm : FmC 𝓤 H 𝓛.laws C) (known : Triple 𝓤 (C #g) (Callee 𝓛 at_mem run)) where
@@ -133,7 +133,7 @@ module _ {M : Type 1} {𝓤 : Ura M} (𝓛 : Logic 𝓤) (at_mem : Memory → SP
         assigns ! (addr ! (from ! (hop ! (look ! 8 refl) (fld ! refl (stop !))))) (from ! (stop !)) (init ! 6 refl (tt, tt)) $
         -- [true; the state's token; `bytes`'s token; true; the state; `bytes`; _3, its room; … ; _0, its room]
         -- The words are lent for a lifetime ν of the call.
-        move ! (4 ∷ 1 ∷ []) $ lend-words 𝓛 (named 1) κ₁ q₁ b o γ h ! tt (λ ν δ. move ! (6 ∷ []) $
+        move ! (4 ∷ 1 ∷ []) $ lend_words 𝓛 (named 1) κ₁ q₁ b o γ h ! tt (λ ν δ. move ! (6 ∷ []) $
         use1 𝓛 (OwnsBytes ⊛ OwnsBytes)
         ((shr_slice_copy 𝓛 (named 0) κ₀ u8).twice bytes (v_bytes ∷ [])) $
         split ! $ move ! (2 ∷ 7 ∷ []) $ fjoin ! $ move ! (1 ∷ []) $ fjoin ! $ move ! (3 ∷ 4 ∷ []) $ join ! $ move ! (4 ∷ []) $ join ! $

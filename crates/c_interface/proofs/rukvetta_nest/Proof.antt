@@ -45,7 +45,7 @@ use Rattle.c_interface.specs.Exported.{NestExported}
 use Rattle.state_lent.specs.declared.NestState.{NestState}
 use Rattle.state_lent.specs.contracts.NestState as T
 use Rattle.state_lent.proofs.Answered.{answered}
-use Rattle.state_lent.proofs.StateWords.{Words, with-words, OwnsState, words-at, words-pointer, lend-words, words_back}
+use Rattle.state_lent.proofs.StateWords.{Words, with_words, OwnsState, words_at, words_pointer, lend_words, words_back}
 use Rattle.c_interface.specs.contracts.nest_in_words as g
 use Rattle.c_interface.proofs.nest_in_words.Symbol as g-def
 use Rattle.c_interface.proofs.nest_in_words.Symbol.{name as #g}
@@ -102,10 +102,10 @@ module _ {M : Type 1} {𝓤 : Ura M} (𝓛 : Logic 𝓤) (at_mem : Memory → SP
 
   -- What is passed on.
   abbrev args-on : (ν : ℕ) → GName → Args g.signature (lifetimes (ν ∷ []))
-  args-on ν δ = (bytes, (words-at b o δ h.words, (out, tt)))
+  args-on ν δ = (bytes, (words_at b o δ h.words, (out, tt)))
 
   abbrev vals-on : (ν : ℕ) → Vals g.signature (lifetimes (ν ∷ []))
-  vals-on ν = (v_bytes ∷ [], (words-pointer b o, (v-out ∷ [], tt)))
+  vals-on ν = (v_bytes ∷ [], (words_pointer b o, (v-out ∷ [], tt)))
 
   abbrev bound : ℕ → GName → (Callee 𝓛 at_mem run).Ghost
   bound ν δ = ((lifetimes (ν ∷ []), shares full_share, tt, args-on ν δ, vals-on ν), tt)
@@ -126,7 +126,7 @@ module _ {M : Type 1} {𝓤 : Ura M} (𝓛 : Logic 𝓤) (at_mem : Memory → SP
   -- What is left of it all at the end.
   abbrev Left : (w : Val) (r : ℕ) (l out' : List ℕ) → List (Item 𝓤)
   Left w r l out' =
-      Tokens κ₁ q₁ ∷ ‵ (OwnsState (named 1) κ₁ b o γ (with-words h l)) ∷ OwnsBytes
+      Tokens κ₁ q₁ ∷ ‵ (OwnsState (named 1) κ₁ b o γ (with_words h l)) ∷ OwnsBytes
       ∷ ‵ (finally u32 out.name out') ∷ ‵ (u64.own_val r (w ∷ [])) ∷ []
 
   exits : (w : Val) (r : ℕ) (l out' : List ℕ) → length out' ≡ length out.now → NestExported bytes.now h.words l out.now out' r
@@ -134,7 +134,7 @@ module _ {M : Type 1} {𝓤 : Ura M} (𝓛 : Logic 𝓤) (at_mem : Memory → SP
   exits w r l out' long e =
       qed 𝓛 (Left w r l out') ∵ suffices ! _
       (ends_at 𝓛 f.ended stayed (f.clauses 𝓛 at_mem run) ((lifetimes κ₁, shares q₁, tt, args, vals), tt) w r
-      (tt, (with-words h l, (out', tt))) (tt, (tt, (long, tt)))) $
+      (tt, (with_words h l, (out', tt))) (tt, (tt, (long, tt)))) $
       says ! e $ frame ! $ nothing ! $ move ! (3 ∷ []) $ fjoin ! $ move ! (1 ∷ []) $ fjoin ! $ move ! (1 ∷ []) $ fjoin ! $ done !
 
   module _ (C : Calls 𝓤 H) (Λ : Loops 𝓤 H) (fm : FmC 𝓤 H 𝓛.laws C) (known : Triple 𝓤 (C #g) (Callee 𝓛 at_mem run)) where
@@ -159,7 +159,7 @@ module _ {M : Type 1} {𝓤 : Ura M} (𝓛 : Logic 𝓤) (at_mem : Memory → SP
         (from ! (stop !)) (init ! 8 refl (tt, (tt, (record { fits = out-is.0.1.0 }, tt)))) $
         -- [true; `out`'s token; the state's token; `bytes`'s token; true; `out`; the state; `bytes`; _6, its room; … ; _0, its room]
         -- The words are lent for a lifetime ν of the call.
-        move ! (6 ∷ 2 ∷ []) $ lend-words 𝓛 (named 1) κ₁ q₁ b o γ h ! tt (λ ν δ. move ! (8 ∷ []) $
+        move ! (6 ∷ 2 ∷ []) $ lend_words 𝓛 (named 1) κ₁ q₁ b o γ h ! tt (λ ν δ. move ! (8 ∷ []) $
         use1 𝓛 (OwnsBytes ⊛ OwnsBytes)
         ((shr_slice_copy 𝓛 (named 0) κ₀ u8).twice bytes (v_bytes ∷ [])) $
         split ! $ move ! (9 ∷ 8 ∷ []) $ fjoin ! $ move ! (3 ∷ []) $ fjoin ! $ move ! (1 ∷ []) $ fjoin ! $ move ! (5 ∷ 4 ∷ []) $ join ! $

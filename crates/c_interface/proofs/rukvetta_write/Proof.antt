@@ -44,7 +44,7 @@ use Rattle.c_interface.specs.Exported.{WriteExported}
 use Rattle.state_lent.specs.declared.NestState.{NestState}
 use Rattle.state_lent.specs.contracts.NestState as T
 use Rattle.state_lent.proofs.Answered.{answered}
-use Rattle.state_lent.proofs.StateWords.{Words, with-words, OwnsState, words-at, words-pointer, lend-words, words_back}
+use Rattle.state_lent.proofs.StateWords.{Words, with_words, OwnsState, words_at, words_pointer, lend_words, words_back}
 use Rattle.c_interface.specs.contracts.write_in_words as g
 use Rattle.c_interface.proofs.write_in_words.Symbol as g-def
 use Rattle.c_interface.proofs.write_in_words.Symbol.{name as #g}
@@ -88,10 +88,10 @@ module _ {M : Type 1} {𝓤 : Ura M} (𝓛 : Logic 𝓤) (at_mem : Memory → SP
 
   -- What is passed on.
   abbrev args-on : (ν : ℕ) → GName → Args g.signature (lifetimes (ν ∷ []))
-  args-on ν δ = (words-at b o δ h.words, (out, tt))
+  args-on ν δ = (words_at b o δ h.words, (out, tt))
 
   abbrev vals-on : (ν : ℕ) → Vals g.signature (lifetimes (ν ∷ []))
-  vals-on ν = (words-pointer b o, (v-out ∷ [], tt))
+  vals-on ν = (words_pointer b o, (v-out ∷ [], tt))
 
   abbrev bound : ℕ → GName → (Callee 𝓛 at_mem run).Ghost
   bound ν δ = ((lifetimes (ν ∷ []), shares full_share, tt, args-on ν δ, vals-on ν), tt)
@@ -108,14 +108,14 @@ module _ {M : Type 1} {𝓤 : Ura M} (𝓛 : Logic 𝓤) (at_mem : Memory → SP
   -- What is left of it all at the end.
   abbrev Left : (w : Val) (r : ℕ) (l out' : List ℕ) → List (Item 𝓤)
   Left w r l out' =
-      Tokens κ₀ q₀ ∷ ‵ (OwnsState (named 0) κ₀ b o γ (with-words h l)) ∷ ‵ (finally u8 out.name out') ∷ ‵ (u32.own_val r (w ∷ [])) ∷ []
+      Tokens κ₀ q₀ ∷ ‵ (OwnsState (named 0) κ₀ b o γ (with_words h l)) ∷ ‵ (finally u8 out.name out') ∷ ‵ (u32.own_val r (w ∷ [])) ∷ []
 
   exits : (w : Val) (r : ℕ) (l out' : List ℕ) → length out' ≡ length out.now → WriteExported h.words l out.now out' r
       → ent 𝓤 (⋆ 𝓛 (Left w r l out')) (Post w)
   exits w r l out' long e =
       qed 𝓛 (Left w r l out') ∵ suffices ! _
       (ends_at 𝓛 f.ended stayed (f.clauses 𝓛 at_mem run) ((lifetimes κ₀, shares q₀, tt, args, vals), tt) w r
-      (with-words h l, (out', tt)) (tt, (long, tt))) $
+      (with_words h l, (out', tt)) (tt, (long, tt))) $
       says ! e $ frame ! $ nothing ! $ move ! (2 ∷ []) $ fjoin ! $ move ! (1 ∷ []) $ fjoin ! $ done !
 
   module _ (C : Calls 𝓤 H) (Λ : Loops 𝓤 H) (fm : FmC 𝓤 H 𝓛.laws C) (known : Triple 𝓤 (C #g) (Callee 𝓛 at_mem run)) where
@@ -138,7 +138,7 @@ module _ {M : Type 1} {𝓤 : Ura M} (𝓛 : Logic 𝓤) (at_mem : Memory → SP
         (from ! (stop !)) (init ! 6 refl (tt, (tt, (record { fits = out-is.0.1.0 }, tt)))) $
         -- [true; `out`'s token; the state's token; true; `out`; the state; _5, its room; … ; _0, its room]
         -- The words are lent for a lifetime ν of the call.
-        move ! (5 ∷ 2 ∷ []) $ lend-words 𝓛 (named 0) κ₀ q₀ b o γ h ! tt (λ ν δ.
+        move ! (5 ∷ 2 ∷ []) $ lend_words 𝓛 (named 0) κ₀ q₀ b o γ h ! tt (λ ν δ.
         move ! (6 ∷ 5 ∷ []) $ fjoin ! $ move ! (1 ∷ []) $ fjoin ! $ move ! (4 ∷ 3 ∷ []) $ join ! $ move ! (3 ∷ []) $ join ! $
         use2 𝓛 (raw ((Callee 𝓛 at_mem run).pre (bound ν δ))) (goes ν δ) $
         -- [what `write_in_words` asks; what is kept; _5, its room; … ; _0, its room]

@@ -1,4 +1,4 @@
-use Rattle.c_interface.specs.laws.ExportingWrite.{store-exported, refusal-exported}
+use Rattle.c_interface.specs.laws.ExportingWrite.{store_exported, refusal_exported}
 use borrow.Author.Rules.{rules}
 use Rattle.c_interface.proofs.write_in_words.Statement.{statement}
 use Rattle.c_interface.proofs.write_in_words.Tie as tie
@@ -39,17 +39,17 @@ same_length c = search rules
 returns : tie.Need-returns
 returns c =
     let at-write = c.before.before.before.before.before.before in
-    store-exported _ _ _ c.wide.ensures.0 (rw c.before.before.answer.given.1 at at-write.write_Store.ensures)
+    store_exported _ _ _ c.wide.ensures.0 (rw c.before.before.answer.given.1 at at-write.write_Store.ensures)
 
 same-length-2 : tie.Need-same-length-2
 same-length-2 c = search rules
 
-returns-2 : tie.Need-returns-2
-returns-2 c =
-    let at-number = c.before.before.before in
-    let at-answer = at-number.before.before in
+returns_2 : tie.Need-returns-2
+returns_2 c =
+    let at_number = c.before.before.before in
+    let at-answer = at_number.before.before in
     let at-write = at-answer.before.before.before.before in
-    refusal-exported _ _ _ at-number.number.ensures c.before.before.wide2.ensures.0 c.before.word.ensures
+    refusal_exported _ _ _ at_number.number.ensures c.before.before.wide2.ensures.0 c.before.word.ensures
     c.wide3.ensures.0 c.wide3.ensures.1 (rw at-answer.answer2.given.1 at at-write.write_Store.ensures)
 
 pub write-in-words-spec : {M : Type 1} → statement M
@@ -69,4 +69,4 @@ write-in-words-spec =
     same_length
     returns
     same-length-2
-    returns-2)
+    returns_2)

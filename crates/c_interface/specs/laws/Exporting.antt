@@ -3,38 +3,38 @@ use Rattle.std.specs.Prelude.{◌≡◌, refl, List, ℕ, ◌+◌, ◌*◌, ◌<
 use Rattle.std.proofs.Common.{arith}
 use Rattle.format.specs.Accept.{accept}
 use Rattle.meaning.specs.facts.Tests.{clash}
-use Rattle.format.specs.laws.Refusals.{number-within}
+use Rattle.format.specs.laws.Refusals.{number_within}
 use Rattle.accept.specs.declared.Accepted.TheVariants.{Record, Refused}
-use Rattle.accept.specs.Judged.{words-given, not-given}
+use Rattle.accept.specs.Judged.{words_given, not_given}
 use Rattle.accept.specs.Accepts.{Accepts}
 use Rattle.c_interface.specs.Exported.{AcceptExported}
 
 module _ (s old new : List ℕ) where
-  pub record-exported : Accepts s old new Record → AcceptExported s old new 0
-  record-exported a =
-      let taken = words-given (accept s) a.answer in
+  pub record_exported : Accepts s old new Record → AcceptExported s old new 0
+  record_exported a =
+      let taken = words_given (accept s) a.answer in
       record {
         answer = Record;
         accepts = a;
         is = refl;
-        if-accepted = λ _. refl;
-        only-if-accepted = λ _. taken;
-        if-refused = λ n w h. let is = taken.is in absurd (clash (cc));
+        if_accepted = λ _. refl;
+        only_if_accepted = λ _. taken;
+        if_refused = λ n w h. let is = taken.is in absurd (clash (cc));
       }
 
-  pub refusal-exported : {n w a b : ℕ} → a ≡ n → b ≡ w → b < 65536 → Accepts s old new (Refused n w)
+  pub refusal_exported : {n w a b : ℕ} → a ≡ n → b ≡ w → b < 65536 → Accepts s old new (Refused n w)
       → AcceptExported s old new (a * 65536 + b)
-  refusal-exported {n} {w} {a} {b} p q small h =
-      let bad = not-given (accept s) h.answer in
-      let number = number-within s bad in
+  refusal_exported {n} {w} {a} {b} p q small h =
+      let bad = not_given (accept s) h.answer in
+      let number = number_within s bad in
       record {
         answer = Refused n w;
         accepts = h;
         is = cc;
-        if-accepted = λ x. let is = x.is in absurd (clash (cc));
-        only-if-accepted = λ z. absurd (omega arith);
-        if-refused = λ m v f.
-            let m-is : a ≡ m = cc in
-            let v-is : b ≡ v = cc in
+        if_accepted = λ x. let is = x.is in absurd (clash (cc));
+        only_if_accepted = λ z. absurd (omega arith);
+        if_refused = λ m v f.
+            let m_is : a ≡ m = cc in
+            let v_is : b ≡ v = cc in
             (omega arith, omega arith);
       }

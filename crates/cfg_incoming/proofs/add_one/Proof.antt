@@ -1,5 +1,5 @@
 use native.Mathlib.Omega.{arith}
-use Rattle.cfg_incoming.specs.laws.CountedLaws.{one-more-by, one-more-beyond}
+use Rattle.cfg_incoming.specs.laws.CountedLaws.{one_more_by, one_more_beyond}
 use borrow.Author.Rules.{rules}
 use Rattle.cfg_incoming.proofs.add_one.Statement.{statement}
 use Rattle.cfg_incoming.proofs.add_one.Tie as tie
@@ -26,11 +26,11 @@ returns : tie.Need-returns
 returns c =
     let at-if = c.before.before in
     let at_pre = at-if.before.before.before.before in
-    one-more-by _ _ (omega arith)
+    one_more_by _ _ (omega arith)
     (at_pre.requires.each _ at-if.if1.true) c.plus.ensures
 
-returns-2 : tie.Need-returns-2
-returns-2 c = one-more-beyond _ _ c.if1.false
+returns_2 : tie.Need-returns-2
+returns_2 c = one_more_beyond _ _ c.if1.false
 
 pub add-one-spec : {M : Type 1} → statement M
 add-one-spec =
@@ -43,4 +43,4 @@ add-one-spec =
     mul-counts
     element-write-counts
     returns
-    returns-2)
+    returns_2)

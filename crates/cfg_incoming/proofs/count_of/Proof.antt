@@ -17,10 +17,10 @@ element-copy-out-t11 c = search rules
 returns : tie.Need-returns
 returns c = search rules
 
-returns-2 : tie.Need-returns-2
-returns-2 c =
+returns_2 : tie.Need-returns-2
+returns_2 c =
     let start = c.before.before.before in
     sym (get_or-eq_default start.args.counts.now 0 {n = start.args.r} (omega arith))
 
 pub count-of-spec : {M : Type 1} → statement M
-count-of-spec = tie.close (tie.spec tells-length-requires mul-t8 element-copy-out-t11 returns returns-2)
+count-of-spec = tie.close (tie.spec tells-length-requires mul-t8 element-copy-out-t11 returns returns_2)

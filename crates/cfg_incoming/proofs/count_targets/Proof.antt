@@ -5,8 +5,8 @@ use native.Mathlib.Omega.{arith}
 use Rattle.meaning.specs.Graph.{targets_of}
 use Rattle.record.specs.Stands.{OfRecord}
 use Rattle.cfg_incoming.specs.Counted.{CountedUpTo, Grows}
-use Rattle.cfg_incoming.specs.laws.CountedLaws.{counting-start, counting-turn, counting-end}
-use Rattle.cfg_incoming.specs.laws.CountedLaws.{grows_start, grows-turn, grows-most, grown, targets-counted}
+use Rattle.cfg_incoming.specs.laws.CountedLaws.{counting_start, counting_turn, counting_end}
+use Rattle.cfg_incoming.specs.laws.CountedLaws.{grows_start, grows_turn, grows_most, grown, targets_counted}
 use borrow.Author.Rules.{rules}
 use Rattle.cfg_incoming.proofs.count_targets.Statement.{statement}
 use Rattle.cfg_incoming.proofs.count_targets.Tie as tie
@@ -17,37 +17,37 @@ invariant-loop w r counts₀ n j₀ counts j = (j ≤ n) × Grows counts₀ coun
 abbrev decreases-loop : tie.decreases-loop
 decreases-loop w r counts₀ n j₀ counts j = n - j
 
-target-count-requires : tie.Need-target-count-requires invariant-loop decreases-loop
-target-count-requires c κs = search rules
+target_count_requires : tie.Need-target-count-requires invariant-loop decreases-loop
+target_count_requires c κs = search rules
 
-loop-holds : tie.Need-loop-init invariant-loop decreases-loop
-loop-holds c = (omega arith, grows_start _, λ g s. counting-start _ _)
+loop_holds : tie.Need-loop-init invariant-loop decreases-loop
+loop_holds c = (omega arith, grows_start _, λ g s. counting_start _ _)
 
-target-requires : tie.Need-target-requires invariant-loop decreases-loop
-target-requires c κs = search rules
+target_requires : tie.Need-target-requires invariant-loop decreases-loop
+target_requires c κs = search rules
 
 add-one-requires : tie.Need-add-one-requires invariant-loop decreases-loop
 add-one-requires c κs = grown _ c.before.before.before.loop.invariant.1 c.before.before.before.before.before.requires (omega arith)
 
-add-j : tie.Need-overflow-add-j invariant-loop decreases-loop
-add-j c = search rules
+add_j : tie.Need-overflow-add-j invariant-loop decreases-loop
+add_j c = search rules
 
-loop-less : tie.Need-loop-smaller invariant-loop decreases-loop
-loop-less c = search rules
+loop_less : tie.Need-loop-smaller invariant-loop decreases-loop
+loop_less c = search rules
 
-loop-again : tie.Need-loop-preserved invariant-loop decreases-loop
-loop-again c =
+loop_again : tie.Need-loop-preserved invariant-loop decreases-loop
+loop_again c =
     let at-loop = c.before.before.before.before in (
       omega arith,
-      grows-turn at-loop.loop.invariant.1 c.add-one.ensures,
-      λ g s. counting-turn _ (targets-counted g _ (at-loop.before.target-count.ensures g s)) (at-loop.loop.invariant.2 g s)
+      grows_turn at-loop.loop.invariant.1 c.add-one.ensures,
+      λ g s. counting_turn _ (targets_counted g _ (at-loop.before.target_count.ensures g s)) (at-loop.loop.invariant.2 g s)
           c.before.before.before.loop-test.true (c.before.target.ensures g s ∙ sym (target_is s _ _)) c.add-one.ensures,
     )
 
 returns : tie.Need-returns invariant-loop decreases-loop
 returns c = (
-  grows-most _ (omega arith) c.before.loop.invariant.1,
-  λ g s. counting-end _ (targets-counted g _ (c.before.before.target-count.ensures g s))
+  grows_most _ (omega arith) c.before.loop.invariant.1,
+  λ g s. counting_end _ (targets_counted g _ (c.before.before.target_count.ensures g s))
       (c.before.loop.invariant.2 g s) c.loop-test.false,
 )
 
@@ -57,11 +57,11 @@ count-targets-spec =
     (tie.spec
     invariant-loop
     decreases-loop
-    target-count-requires
-    loop-holds
-    target-requires
+    target_count_requires
+    loop_holds
+    target_requires
     add-one-requires
-    add-j
-    loop-less
-    loop-again
+    add_j
+    loop_less
+    loop_again
     returns)

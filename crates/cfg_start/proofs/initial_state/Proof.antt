@@ -1,10 +1,10 @@
-use Rattle.cfg_start.specs.laws.paths.InitialStateLaws.{started-by}
+use Rattle.cfg_start.specs.laws.paths.InitialStateLaws.{started_by}
 use borrow.Author.Rules.{rules}
 use Rattle.cfg_start.proofs.initial_state.Statement.{statement}
 use Rattle.cfg_start.proofs.initial_state.Tie as tie
 
-region-count-requires : tie.Need-region-count-requires
-region-count-requires c κs = search rules
+region_count_requires : tie.Need-region-count-requires
+region_count_requires c κs = search rules
 
 set-no-rewrites-requires : tie.Need-set-no-rewrites-requires
 set-no-rewrites-requires c κs = search rules
@@ -28,7 +28,7 @@ returns c =
     let at-start-kinds = at-start-slots.before.before in
     let at-set-no-rewrites = at-start-kinds.before.before in
     let at-region-count = at-set-no-rewrites.before.before in
-    started-by _ at-region-count.region-count.ensures
+    started_by _ at-region-count.region_count.ensures
     at-set-no-rewrites.set-no-rewrites.ensures
     at-start-kinds.start-kinds.ensures
     at-start-slots.start-slots.ensures at-start-totals.start-totals.ensures c.start-returned.ensures
@@ -37,7 +37,7 @@ pub initial-state-spec : {M : Type 1} → statement M
 initial-state-spec =
     tie.close
     (tie.spec
-    region-count-requires
+    region_count_requires
     set-no-rewrites-requires
     start-kinds-requires
     start-slots-requires

@@ -1,7 +1,7 @@
 use Prim.Native.Nat.{◌-◌}
 use Rattle.record.specs.Stands.{OfRecord}
 use Rattle.cfg_start.specs.InitialState.{ReturnedLeft}
-use Rattle.cfg_start.specs.laws.paths.InitialStateLaws.{returned-start, returned-turn, returned-stop}
+use Rattle.cfg_start.specs.laws.paths.InitialStateLaws.{returned_start, returned_turn, returned_stop}
 use borrow.Author.Rules.{rules}
 use Rattle.cfg_start.proofs.start_returned.Statement.{statement}
 use Rattle.cfg_start.proofs.start_returned.Tie as tie
@@ -21,8 +21,8 @@ value-count-requires c κs = search rules
 at-most-four-requires : tie.Need-at-most-four-requires invariant-loop decreases-loop
 at-most-four-requires c κs = search rules
 
-loop-holds : tie.Need-loop-init invariant-loop decreases-loop
-loop-holds c = λ g s. returned-start g _
+loop_holds : tie.Need-loop-init invariant-loop decreases-loop
+loop_holds c = λ g s. returned_start g _
 
 return-type-requires : tie.Need-return-type-requires invariant-loop decreases-loop
 return-type-requires c κs = search rules
@@ -42,21 +42,21 @@ set-head-requires c κs = search rules
 add-k : tie.Need-overflow-add-k invariant-loop decreases-loop
 add-k c = search rules
 
-loop-less : tie.Need-loop-smaller invariant-loop decreases-loop
-loop-less c = search rules
+loop_less : tie.Need-loop-smaller invariant-loop decreases-loop
+loop_less c = search rules
 
-loop-again : tie.Need-loop-preserved invariant-loop decreases-loop
-loop-again c =
+loop_again : tie.Need-loop-preserved invariant-loop decreases-loop
+loop_again c =
     let at-return-type = c.before.before in
     let at-loop-test = at-return-type.before.before in
     let at-loop = at-loop-test.before in
     let at-at-most-four = at-loop.before in
     let at-value-count = at-at-most-four.before in
     let at-first-return = at-value-count.before.before in
-    returned-turn at-first-return.first-return.ensures
+    returned_turn at-first-return.first_return.ensures
     at-value-count.value-count.ensures at-at-most-four.at-most-four.ensures
     at-loop.loop.invariant at-loop-test.loop-test.true
-    at-return-type.return-type.ensures c.set-head.ensures
+    at-return-type.return_type.ensures c.set-head.ensures
 
 set-head-requires-2 : tie.Need-set-head-requires-2 invariant-loop decreases-loop
 set-head-requires-2 c κs = search rules
@@ -68,7 +68,7 @@ returns c =
     let at-at-most-four = at-loop.before in
     let at-value-count = at-at-most-four.before in
     let at-first-return = at-value-count.before.before in
-    returned-stop at-first-return.first-return.ensures
+    returned_stop at-first-return.first_return.ensures
     at-value-count.value-count.ensures at-at-most-four.at-most-four.ensures
     at-loop.loop.invariant at-loop-test.loop-test.false c.set-head2.ensures
 
@@ -81,14 +81,14 @@ start-returned-spec =
     first-return-requires
     value-count-requires
     at-most-four-requires
-    loop-holds
+    loop_holds
     return-type-requires
     add-set-head
     cast-set-head
     add-set-head-2
     set-head-requires
     add-k
-    loop-less
-    loop-again
+    loop_less
+    loop_again
     set-head-requires-2
     returns)

@@ -16,7 +16,7 @@ returns c =
     let at-as-word = c.before.before in
     let at-blocks-before = at-as-word.before in
     λ g s.
-    rw (at-as-word.as-word.ensures, at-blocks-before.blocks-before.ensures.is g s)
+    rw (at-as-word.as-word.ensures, at-blocks-before.blocks_before.ensures.is g s)
     at c.set-first-totals.ensures
 
 pub start-totals-spec : {M : Type 1} → statement M

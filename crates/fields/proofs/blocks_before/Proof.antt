@@ -13,8 +13,8 @@ invariant-loop w r sum₀ i₀ sum i = BlocksBefore w i sum × (i ≤ r)
 abbrev decreases-loop : tie.decreases-loop
 decreases-loop w r sum₀ i₀ sum i = r - i
 
-loop-holds : tie.Need-loop-init invariant-loop decreases-loop
-loop-holds c = (none_before _, omega arith)
+loop_holds : tie.Need-loop-init invariant-loop decreases-loop
+loop_holds c = (none_before _, omega arith)
 
 block-count-requires : tie.Need-block-count-requires invariant-loop decreases-loop
 block-count-requires c κs = search rules
@@ -25,14 +25,14 @@ cast-sum c = search rules
 add-sum : tie.Need-overflow-add-sum invariant-loop decreases-loop
 add-sum c = search rules
 
-add-i : tie.Need-overflow-add-i invariant-loop decreases-loop
-add-i c = search rules
+add_i : tie.Need-overflow-add-i invariant-loop decreases-loop
+add_i c = search rules
 
-loop-less : tie.Need-loop-smaller invariant-loop decreases-loop
-loop-less c = search rules
+loop_less : tie.Need-loop-smaller invariant-loop decreases-loop
+loop_less c = search rules
 
-loop-again : tie.Need-loop-preserved invariant-loop decreases-loop
-loop-again c = (blocks_more c.before.before.loop.invariant.0 c.block-count.ensures (omega arith), omega arith)
+loop_again : tie.Need-loop-preserved invariant-loop decreases-loop
+loop_again c = (blocks_more c.before.before.loop.invariant.0 c.block_count.ensures (omega arith), omega arith)
 
 returns : tie.Need-returns invariant-loop decreases-loop
 returns c = let e : c.before.loop.i ≡ c.before.before.args.r = omega arith in rw e at c.before.loop.invariant.0
@@ -43,11 +43,11 @@ blocks-before-spec =
     (tie.spec
     invariant-loop
     decreases-loop
-    loop-holds
+    loop_holds
     block-count-requires
     cast-sum
     add-sum
-    add-i
-    loop-less
-    loop-again
+    add_i
+    loop_less
+    loop_again
     returns)

@@ -1,7 +1,7 @@
 use borrow.Author.Rules.{rules}
 use Rattle.fields.proofs.instruction.Statement.{statement}
 use Rattle.fields.proofs.instruction.Tie as tie
-use Rattle.fields.specs.laws.Instructions.{instruction-by, instruction-at}
+use Rattle.fields.specs.laws.Instructions.{instruction_by, instruction_at}
 
 instruction-place-requires : tie.Need-instruction-place-requires
 instruction-place-requires c κs = search rules
@@ -35,7 +35,7 @@ returns c g s =
     let at-instruction-place = c.before.before.before.before in
     let start = at-instruction-place.before in
     let a = start.args in
-    instruction-by _ _ (rw (← at-instruction-place.instruction-place.ensures) at (instruction-at s a.r a.b a.i))
+    instruction_by _ _ (rw (← at-instruction-place.instruction_place.ensures) at (instruction_at s a.r a.b a.i))
     c.before.before.before.word_at.ensures c.before.before.word-at2.ensures c.before.word-at3.ensures
     c.word-at4.ensures
 

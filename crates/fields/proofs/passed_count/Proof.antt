@@ -2,7 +2,7 @@ use borrow.Author.Rules.{rules}
 use Rattle.fields.proofs.passed_count.Statement.{statement}
 use Rattle.fields.proofs.passed_count.Tie as tie
 use mathlib.Core.Path.{◌∙◌}
-use Rattle.fields.specs.laws.Passed.{passed-at}
+use Rattle.fields.specs.laws.Passed.{passed_at}
 
 passed-place-requires : tie.Need-passed-place-requires
 passed-place-requires c κs = search rules
@@ -14,7 +14,7 @@ word-at-requires : tie.Need-word-at-requires
 word-at-requires c κs = search rules
 
 returns : tie.Need-returns
-returns c g s = c.word_at.ensures ∙ rw c.before.passed-place.ensures (passed-at s _ _).count
+returns c g s = c.word_at.ensures ∙ rw c.before.passed_place.ensures (passed_at s _ _).count
 
 pub passed-count-spec : {M : Type 1} → statement M
 passed-count-spec =

@@ -2,8 +2,8 @@ use borrow.Author.Rules.{rules}
 use Rattle.fields.proofs.read.Statement.{statement}
 use Rattle.fields.proofs.read.Tie as tie
 use mathlib.Core.Path.{◌∙◌}
-use Rattle.fields.specs.laws.Lists.{value-item-is}
-use Rattle.fields.specs.laws.Instructions.{instruction-at}
+use Rattle.fields.specs.laws.Lists.{value_item_is}
+use Rattle.fields.specs.laws.Instructions.{instruction_at}
 
 instruction-place-requires : tie.Need-instruction-place-requires
 instruction-place-requires c κs = search rules
@@ -22,8 +22,8 @@ value-item-requires c κs = search rules
 
 returns : tie.Need-returns
 returns c g s =
-    c.value-item.ensures ∙ rw (c.before.place.ensures, c.before.before.instruction-place.ensures)
-    (value-item-is _ (instruction-at s _ _ _).reads _)
+    c.value_item.ensures ∙ rw (c.before.place.ensures, c.before.before.instruction_place.ensures)
+    (value_item_is _ (instruction_at s _ _ _).reads _)
 
 pub read_spec : {M : Type 1} → statement M
 read_spec =

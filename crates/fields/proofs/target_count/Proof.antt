@@ -2,7 +2,7 @@ use borrow.Author.Rules.{rules}
 use Rattle.fields.proofs.target_count.Statement.{statement}
 use Rattle.fields.proofs.target_count.Tie as tie
 use mathlib.Core.Path.{◌∙◌}
-use Rattle.fields.specs.laws.Passed.{target-count}
+use Rattle.fields.specs.laws.Passed.{target_count}
 
 targets-place-requires : tie.Need-targets-place-requires
 targets-place-requires c κs = search rules
@@ -14,7 +14,7 @@ word-at-requires : tie.Need-word-at-requires
 word-at-requires c κs = search rules
 
 returns : tie.Need-returns
-returns c g s = c.word_at.ensures ∙ rw c.before.targets-place.ensures (target-count s _)
+returns c g s = c.word_at.ensures ∙ rw c.before.targets_place.ensures (target_count s _)
 
 pub target-count-spec : {M : Type 1} → statement M
 target-count-spec =

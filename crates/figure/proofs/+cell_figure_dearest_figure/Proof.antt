@@ -5,11 +5,11 @@ use native.Mathlib.Omega.{arith}
 use borrow.Author.Rules.{rules}
 use borrow.Fn.Kinds.{In}
 use borrow.Fn.PlainCycle.{Measures, is, falls, and}
-use Rattle.state_lists.specs.laws.CellByCellLaws.{named-below, before-below}
+use Rattle.state_lists.specs.laws.CellByCellLaws.{named_below, before_below}
 use Rattle.figure.specs.Figured.{SummedTo, DearestTo}
-use Rattle.figure.specs.laws.Steps.{dearest-start, dearest-turn, dearest-all, cell-blocks, cell-joined, cell-select, cell-loop}
+use Rattle.figure.specs.laws.Steps.{dearest_start, dearest_turn, dearest_all, cell_blocks, cell_joined, cell_select, cell_loop}
 use Rattle.figure.specs.laws.Steps.{cell_other}
-use Rattle.figure.specs.laws.Steps.{turns_fit, passed_none, passed-turn, passed-all}
+use Rattle.figure.specs.laws.Steps.{turns_fit, passed_none, passed_turn, passed_all}
 use Rattle.figure.proofs.cell_figure.Reads as cell-figure
 use Rattle.figure.proofs.cell_figure.Kinds as cell-figure-kinds
 use Rattle.figure.proofs.+cell_figure_dearest_figure.Lts-cell_figure as cell-figure-lts
@@ -131,8 +131,8 @@ cell-figure-held-at-limit-requires : (t : ℕ) → cell-figure-lts.Need-held-at-
 cell-figure-held-at-limit-requires t c κs = search rules
 
 cell-figure-returns : (t : ℕ) → cell-figure-lts.Need-returns (cell-figure-called t) (cell-figure-at t) cell-figure.Post
-cell-figure-returns t c = cell-blocks c.before.before.before.before.cell-tag.ensures c.before.before.before.if1.true
-    c.before.before.blocks-region.ensures c.before.blocks-figure.ensures c.held-at-limit.ensures
+cell-figure-returns t c = cell_blocks c.before.before.before.before.cell_tag.ensures c.before.before.before.if1.true
+    c.before.before.blocks_region.ensures c.before.blocks-figure.ensures c.held-at-limit.ensures
 
 cell-figure-join-list-requires : (t : ℕ) → cell-figure-lts.Need-join-list-requires (cell-figure-called t) (cell-figure-at t)
     cell-figure.Post
@@ -143,14 +143,14 @@ cell-figure-figure-requires t c κs = (
   omega (
     arith,
     c.before.before.before.before.requires.0,
-    named-below _ c.join-list.ensures c.before.before.before.before.requires.1,
+    named_below _ c.join_list.ensures c.before.before.before.before.requires.1,
   ),
   tt,
 )
 
 cell-figure-returns-2 : (t : ℕ) → cell-figure-lts.Need-returns-2 (cell-figure-called t) (cell-figure-at t) cell-figure.Post
-cell-figure-returns-2 t c = cell-joined c.before.before.before.before.cell-tag.ensures c.before.before.if2.true
-    c.before.join-list.ensures c.figure.ensures
+cell-figure-returns-2 t c = cell_joined c.before.before.before.before.cell_tag.ensures c.before.before.if2.true
+    c.before.join_list.ensures c.figure.ensures
 
 cell-figure-test-cost-requires : (t : ℕ) → cell-figure-lts.Need-test-cost-requires (cell-figure-called t) (cell-figure-at t)
     cell-figure.Post
@@ -169,7 +169,7 @@ cell-figure-dearest-requires t c κs =
       omega (
         arith,
         at_pre.requires.0,
-        named-below _ c.select-cases.ensures at_pre.requires.1,
+        named_below _ c.select_cases.ensures at_pre.requires.1,
       ),
       tt,
     )
@@ -187,9 +187,9 @@ cell-figure-returns-3 t c =
     let at-if = at-select-cases.before in
     let at-test-cost = at-if.before in
     let at-cell-tag = at-test-cost.before.before.before in
-    cell-select at-cell-tag.cell-tag.ensures
-    at-test-cost.test-cost.ensures at-if.if3.true
-    at-select-cases.select-cases.ensures c.before.dearest.ensures c.held-at-limit2.ensures
+    cell_select at-cell-tag.cell_tag.ensures
+    at-test-cost.test_cost.ensures at-if.if3.true
+    at-select-cases.select_cases.ensures c.before.dearest.ensures c.held-at-limit2.ensures
 
 cell-figure-loop-header-requires : (t : ℕ)
     → cell-figure-lts.Need-loop-header-requires (cell-figure-called t) (cell-figure-at t) cell-figure.Post
@@ -211,7 +211,7 @@ cell-figure-figure-requires-2 t c κs =
       omega (
         arith,
         at_pre.requires.0,
-        named-below _ c.loop-body.ensures at_pre.requires.1,
+        named_below _ c.loop_body.ensures at_pre.requires.1,
       ),
       tt,
     )
@@ -227,7 +227,7 @@ cell-figure-mul-held-at-limit t c =
     omega (
       arith,
       turns_fit at-limit.limit.type-inv c.figure2.ensures.small
-          at-test-cost.test-cost.type-inv,
+          at-test-cost.test_cost.type-inv,
     )
 
 cell-figure-held-at-limit-requires-3 : (t : ℕ) → cell-figure-lts.Need-held-at-limit-requires-3 (cell-figure-called t) (cell-figure-at t)
@@ -242,15 +242,15 @@ cell-figure-returns-4 t c =
     let at-if = at-loop-header.before in
     let at-test-cost = at-if.before.before in
     let at-cell-tag = at-test-cost.before.before.before in
-    cell-loop
-    at-cell-tag.cell-tag.ensures
-    at-test-cost.test-cost.ensures
-    at-if.if4.true at-loop-header.loop-header.ensures
-    at-limit.limit.ensures at-loop-headerefore.loop-body.ensures c.before.figure2.ensures
+    cell_loop
+    at-cell-tag.cell_tag.ensures
+    at-test-cost.test_cost.ensures
+    at-if.if4.true at-loop-header.loop_header.ensures
+    at-limit.limit.ensures at-loop-headerefore.loop_body.ensures c.before.figure2.ensures
     c.held-at-limit3.ensures
 
 cell-figure-returns-5 : (t : ℕ) → cell-figure-lts.Need-returns-5 (cell-figure-called t) (cell-figure-at t) cell-figure.Post
-cell-figure-returns-5 t c = cell_other c.before.before.before.before.before.cell-tag.ensures
+cell-figure-returns-5 t c = cell_other c.before.before.before.before.before.cell_tag.ensures
     c.before.before.before.before.if1.false c.before.before.before.if2.false c.before.if3.false c.if4.false
 
 abbrev dearest-Inv-loop : dearest-lts.invariant-loop
@@ -261,7 +261,7 @@ dearest-μ-loop w most₀ h₀ most h = h.0
 
 dearest-loop-holds : (t : ℕ) → dearest-lts.Need-loop-init (dearest-called t) (dearest-at t) dearest.Post dearest-Inv-loop
     dearest-μ-loop
-dearest-loop-holds t c = dearest-start
+dearest-loop-holds t c = dearest_start
 
 dearest-children-of-case-requires : (t : ℕ)
     → dearest-lts.Need-children-of-case-requires (dearest-called t) (dearest-at t) dearest.Post dearest-Inv-loop
@@ -274,7 +274,7 @@ dearest-figure-requires t c κs = (
   omega (
     arith,
     c.before.before.before.before.requires.0,
-    named-below _ c.children-of-case.ensures c.before.if1.true,
+    named_below _ c.children_of_case.ensures c.before.if1.true,
     c.before.before.before.loop.invariant.below,
   ),
   tt,
@@ -291,19 +291,19 @@ dearest-cases-after-requires t c κs = search rules
 
 dearest-loop-less : (t : ℕ) → dearest-lts.Need-loop-smaller (dearest-called t) (dearest-at t) dearest.Post dearest-Inv-loop
     dearest-μ-loop
-dearest-loop-less t c = named-below _ c.cases-after.ensures c.before.before.before.before.if1.true
+dearest-loop-less t c = named_below _ c.cases_after.ensures c.before.before.before.before.if1.true
 
 dearest-loop-again : (t : ℕ) → dearest-lts.Need-loop-preserved (dearest-called t) (dearest-at t) dearest.Post dearest-Inv-loop
     dearest-μ-loop
 dearest-loop-again t c =
     let at-figure = c.before.before in
     let at-if = at-figure.before.before in
-    dearest-turn at-if.before.before.loop.invariant at-if.if1.true at-figure.before.children-of-case.ensures
-    at-figure.figure.ensures c.before.larger.ensures c.cases-after.ensures
+    dearest_turn at-if.before.before.loop.invariant at-if.if1.true at-figure.before.children_of_case.ensures
+    at-figure.figure.ensures c.before.larger.ensures c.cases_after.ensures
 
 dearest-returns : (t : ℕ) → dearest-lts.Need-returns (dearest-called t) (dearest-at t) dearest.Post dearest-Inv-loop
     dearest-μ-loop
-dearest-returns t c = dearest-all c.before.before.loop.invariant c.if1.false
+dearest-returns t c = dearest_all c.before.before.loop.invariant c.if1.false
 
 abbrev figure-Inv-loop : figure-lts.invariant-loop
 figure-Inv-loop w sum₀ h₀ sum h = SummedTo w h₀.0 h.0 sum
@@ -331,14 +331,14 @@ figure-list-before-requires : (t : ℕ) → figure-lts.Need-list-before-requires
 figure-list-before-requires t c κs = search rules
 
 figure-loop-less : (t : ℕ) → figure-lts.Need-loop-smaller (figure-called t) (figure-at t) figure.Post figure-Inv-loop figure-μ-loop
-figure-loop-less t c = before-below _ c.list-before.ensures c.before.before.before.if1.true
+figure-loop-less t c = before_below _ c.list_before.ensures c.before.before.before.if1.true
 
 figure-loop-again : (t : ℕ) → figure-lts.Need-loop-preserved (figure-called t) (figure-at t) figure.Post figure-Inv-loop figure-μ-loop
-figure-loop-again t c = passed-turn c.before.before.before.before.before.loop.invariant c.before.before.before.if1.true
-    c.before.before.cell-figure.ensures c.before.held-at-limit.ensures c.list-before.ensures
+figure-loop-again t c = passed_turn c.before.before.before.before.before.loop.invariant c.before.before.before.if1.true
+    c.before.before.cell-figure.ensures c.before.held-at-limit.ensures c.list_before.ensures
 
 figure-returns : (t : ℕ) → figure-lts.Need-returns (figure-called t) (figure-at t) figure.Post figure-Inv-loop figure-μ-loop
-figure-returns t c = passed-all c.before.before.loop.invariant c.if1.false
+figure-returns t c = passed_all c.before.before.loop.invariant c.if1.false
 
 pub +cell-figure-dearest-figure-spec : {M : Type 1} → statement M
 +cell-figure-dearest-figure-spec =

@@ -8,8 +8,8 @@ use borrow.Author.Rules.{rules}
 use Rattle.meaning.specs.Lists.{total}
 use Rattle.meaning.specs.Graph.{region}
 use Rattle.record.specs.Stands.{OfRecord}
-use Rattle.figure.specs.laws.Nodes.{block-cost}
-use Rattle.meaning.specs.facts.Sums.{sum-turn, sum-end}
+use Rattle.figure.specs.laws.Nodes.{block_cost}
+use Rattle.meaning.specs.facts.Sums.{sum_turn, sum_end}
 use Rattle.figure.proofs.blocks_figure.Statement.{statement}
 use Rattle.figure.proofs.blocks_figure.Tie as tie
 
@@ -17,7 +17,7 @@ abbrev invariant-loop : tie.invariant-loop
 invariant-loop w r n sum₀ b₀ sum b =
     (b ≤ n)
     × (sum ≤ 4294836225 * b)
-    × OfRecord w (λ g. sum + total block-cost (drop b (region g r).blocks) ≡ total block-cost (region g r).blocks)
+    × OfRecord w (λ g. sum + total block_cost (drop b (region g r).blocks) ≡ total block_cost (region g r).blocks)
 
 abbrev decreases-loop : tie.decreases-loop
 decreases-loop w r n sum₀ b₀ sum b = n - b
@@ -25,8 +25,8 @@ decreases-loop w r n sum₀ b₀ sum b = n - b
 block-count-requires : tie.Need-block-count-requires invariant-loop decreases-loop
 block-count-requires c κs = search rules
 
-loop-holds : tie.Need-loop-init invariant-loop decreases-loop
-loop-holds c = (omega arith, omega arith, λ g s. omega arith)
+loop_holds : tie.Need-loop-init invariant-loop decreases-loop
+loop_holds c = (omega arith, omega arith, λ g s. omega arith)
 
 block-figure-requires : tie.Need-block-figure-requires invariant-loop decreases-loop
 block-figure-requires c κs = search rules
@@ -37,22 +37,22 @@ add-sum c = search rules
 add-b : tie.Need-overflow-add-b invariant-loop decreases-loop
 add-b c = search rules
 
-loop-less : tie.Need-loop-smaller invariant-loop decreases-loop
-loop-less c = search rules
+loop_less : tie.Need-loop-smaller invariant-loop decreases-loop
+loop_less c = search rules
 
-loop-again : tie.Need-loop-preserved invariant-loop decreases-loop
-loop-again c = (
+loop_again : tie.Need-loop-preserved invariant-loop decreases-loop
+loop_again c = (
   omega arith,
   omega (arith, c.block-figure.ensures.small),
   λ g s. rw (c.block-figure.ensures.shown g s)
-      (sum-turn block-cost _ [] (c.before.before.before.block-count.ensures g s) _ _ _
+      (sum_turn block_cost _ [] (c.before.before.before.block_count.ensures g s) _ _ _
       c.before.loop-test.true (c.before.before.loop.invariant.2 g s)),
 )
 
 returns : tie.Need-returns invariant-loop decreases-loop
 returns c = record {
-  small = omega (arith, c.before.before.block-count.type-inv);
-  shown = λ g s. sum-end block-cost _ [] (c.before.before.block-count.ensures g s) _ _ _ c.loop-test.false
+  small = omega (arith, c.before.before.block_count.type-inv);
+  shown = λ g s. sum_end block_cost _ [] (c.before.before.block_count.ensures g s) _ _ _ c.loop-test.false
       (c.before.loop.invariant.2 g s);
 }
 
@@ -63,10 +63,10 @@ blocks-figure-spec =
     invariant-loop
     decreases-loop
     block-count-requires
-    loop-holds
+    loop_holds
     block-figure-requires
     add-sum
     add-b
-    loop-less
-    loop-again
+    loop_less
+    loop_again
     returns)

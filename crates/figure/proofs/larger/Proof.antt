@@ -5,8 +5,8 @@ use Rattle.figure.proofs.larger.Tie as tie
 returns : tie.Need-returns
 returns c = omega (arith, c.if1.true)
 
-returns-2 : tie.Need-returns-2
-returns-2 c = omega (arith, c.if1.false)
+returns_2 : tie.Need-returns-2
+returns_2 c = omega (arith, c.if1.false)
 
 pub larger-spec : {M : Type 1} → statement M
-larger-spec = tie.close (tie.spec returns returns-2)
+larger-spec = tie.close (tie.spec returns returns_2)

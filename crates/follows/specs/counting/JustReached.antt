@@ -2,7 +2,7 @@
 use Rattle.meaning.specs.Graph.{Graph}
 use Rattle.nesting.specs.Nesting.{reachable}
 use Rattle.follows.specs.Statements.{JustReached}
-use Rattle.follows.specs.counting.Reach.{reachable-sound, reachable-complete, reachable-once}
+use Rattle.follows.specs.counting.Reach.{reachable_sound, reachable_complete, reachable_once}
 
-pub just-reached : (g : Graph) → JustReached g (reachable g)
-just-reached g = record { once = reachable-once g; sound = reachable-sound g; complete = reachable-complete g }
+pub just_reached : (g : Graph) → JustReached g (reachable g)
+just_reached g = record { once = reachable_once g; sound = reachable_sound g; complete = reachable_complete g }

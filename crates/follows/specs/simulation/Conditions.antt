@@ -2,10 +2,10 @@
 use Rattle.std.specs.Prelude.{false, true, List, [], ◌∷◌, ◌⊎◌, ◌≡◌, suc, zero, ℕ, get_or}
 use Rattle.std.proofs.Common.{inl, inr}
 use Rattle.std.proofs.Math.Option.{Option, none, some}
-use Rattle.meaning.specs.Graph.{Value, bool, bool-cond, output, undef}
+use Rattle.meaning.specs.Graph.{Value, bool, bool_cond, output, undef}
 use Rattle.meaning.specs.Runs.{Word, word}
 use Rattle.meaning.specs.facts.Tests.{clash}
-use Rattle.nesting.specs.Nesting.{LazyCond, LazyConds, ◌&◌, false-cond, merge, true-cond, undef-cond, no-conds, NodeOutput}
+use Rattle.nesting.specs.Nesting.{LazyCond, LazyConds, ◌&◌, false_cond, merge, true_cond, undef_cond, no_conds, NodeOutput}
 use Rattle.follows.specs.simulation.Key.{OutputAt}
 use Rattle.follows.specs.simulation.Tables.{stays}
 use Rattle.meaning.specs.facts.Elements.{Extends}
@@ -13,15 +13,15 @@ use Rattle.meaning.specs.facts.Elements.{Extends}
 -- v is what materializing a condition gives, as the outputs stand
 unfoldable mutual
   pub Mat : LazyCond → List NodeOutput → Value → Type 0
-  Mat true-cond os v = v ≡ bool true
-  Mat false-cond os v = v ≡ bool false
-  Mat undef-cond os v = v ≡ undef 1
+  Mat true_cond os v = v ≡ bool true
+  Mat false_cond os v = v ≡ bool false
+  Mat undef_cond os v = v ≡ undef 1
   Mat (merge n kind sc cs) os v =
-      ((kind ≡ bool-cond) × (v ≡ sc) × Mats cs os (bool true ∷ bool false ∷ []))
+      ((kind ≡ bool_cond) × (v ≡ sc) × Mats cs os (bool true ∷ bool false ∷ []))
       ⊎ ((k : ℕ) × (o : NodeOutput) × (v ≡ output k) × OutputAt n os k o × Mats cs os o.values)
 
   pub Mats : LazyConds → List NodeOutput → List Value → Type 0
-  Mats no-conds os vs = vs ≡ []
+  Mats no_conds os vs = vs ≡ []
   Mats (c & cs) os vs = (v : Value) × (ws : List Value) × (vs ≡ v ∷ ws) × Mat c os v × Mats cs os ws
 
 -- A test of it succeeds.
@@ -29,29 +29,29 @@ pub record Truthy (w : Word) : Type 0 where
   pub less : ℕ
   pub is : w ≡ word (suc less)
 
-abbrev pub condition-at : LazyConds → ℕ → Option LazyCond
-condition-at no-conds j = none
-condition-at (c & cs) zero = some c
-condition-at (c & cs) (suc j) = condition-at cs j
+abbrev pub condition_at : LazyConds → ℕ → Option LazyCond
+condition_at no_conds j = none
+condition_at (c & cs) zero = some c
+condition_at (c & cs) (suc j) = condition_at cs j
 
-pub mats-at : (cs : LazyConds) (os : List NodeOutput) (vs : List Value) (j : ℕ) (c : LazyCond) → Mats cs os vs → condition-at cs j ≡ some c
+pub mats_at : (cs : LazyConds) (os : List NodeOutput) (vs : List Value) (j : ℕ) (c : LazyCond) → Mats cs os vs → condition_at cs j ≡ some c
     → Mat c os (get_or vs j (undef 0))
 unfolding Mats
-mats-at no-conds os vs j c ms p = absurd (clash (cc))
-mats-at (c' & cs) os vs zero c ms p = let e : c' ≡ c = cc in rw (ms.2, ← e) ms.3
-mats-at (c' & cs) os vs (suc j) c ms p = rw ms.2 (mats-at cs os ms.1 j c ms.4 p)
+mats_at no_conds os vs j c ms p = absurd (clash (cc))
+mats_at (c' & cs) os vs zero c ms p = let e : c' ≡ c = cc in rw (ms.2, ← e) ms.3
+mats_at (c' & cs) os vs (suc j) c ms p = rw ms.2 (mats_at cs os ms.1 j c ms.4 p)
 
 -- ---- a condition stays
 mutual
   unfolding Mat
 
-  pub mat-stays : (c : LazyCond) (a b : List NodeOutput) → Extends a b → (v : Value) → Mat c a v → Mat c b v
-  mat-stays true-cond a b p v h = h
-  mat-stays false-cond a b p v h = h
-  mat-stays undef-cond a b p v h = h
-  mat-stays (merge n kind sc cs) a b p v (inl (x, y, ms)) = inl (x, y, mats-stay cs a b p _ ms)
-  mat-stays (merge n kind sc cs) a b p v (inr (k, o, e, at-k, ms)) = inr (k, o, e, stays p at-k, mats-stay cs a b p _ ms)
+  pub mat_stays : (c : LazyCond) (a b : List NodeOutput) → Extends a b → (v : Value) → Mat c a v → Mat c b v
+  mat_stays true_cond a b p v h = h
+  mat_stays false_cond a b p v h = h
+  mat_stays undef_cond a b p v h = h
+  mat_stays (merge n kind sc cs) a b p v (inl (x, y, ms)) = inl (x, y, mats_stay cs a b p _ ms)
+  mat_stays (merge n kind sc cs) a b p v (inr (k, o, e, at_k, ms)) = inr (k, o, e, stays p at_k, mats_stay cs a b p _ ms)
 
-  pub mats-stay : (cs : LazyConds) (a b : List NodeOutput) → Extends a b → (vs : List Value) → Mats cs a vs → Mats cs b vs
-  mats-stay no-conds a b p vs h = h
-  mats-stay (c & cs) a b p vs (v, ws, e, h, hs) = (v, ws, e, mat-stays c a b p v h, mats-stay cs a b p ws hs)
+  pub mats_stay : (cs : LazyConds) (a b : List NodeOutput) → Extends a b → (vs : List Value) → Mats cs a vs → Mats cs b vs
+  mats_stay no_conds a b p vs h = h
+  mats_stay (c & cs) a b p vs (v, ws, e, h, hs) = (v, ws, e, mat_stays c a b p v h, mats_stay cs a b p ws hs)

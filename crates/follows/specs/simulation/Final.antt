@@ -3,30 +3,30 @@ use Rattle.std.proofs.Math.Option.{none}
 use Rattle.std.specs.Prelude.{List, ◌≡◌, refl, suc, ℕ, length}
 use Rattle.std.proofs.Common.{◌∙◌, ap, sym, arith}
 use Rattle.meaning.specs.Graph.{bool, const, input, instr, output, undef}
-use Rattle.nesting.specs.lookups.ChainEnds.{ChainsEnd, rewrite-enough}
-use Rattle.nesting.specs.lookups.ChainSteps.{chain_steps, next-value, stops-rewrite}
-use Rattle.nesting.specs.laws.HeldStays.{rewrite-held}
-use Rattle.nesting.specs.Nesting.{rewrites-of, RewriteEntry, unmarked}
-use Rattle.nesting.specs.lookups.Rewriting.{rewrite-last}
+use Rattle.nesting.specs.lookups.ChainEnds.{ChainsEnd, rewrite_enough}
+use Rattle.nesting.specs.lookups.ChainSteps.{chain_steps, next_value, stops_rewrite}
+use Rattle.nesting.specs.laws.HeldStays.{rewrite_held}
+use Rattle.nesting.specs.Nesting.{rewrites_of, RewriteEntry, unmarked}
+use Rattle.nesting.specs.lookups.Rewriting.{rewrite_last}
 use Rattle.follows.specs.simulation.Tables.{Respects, Tables}
-use Rattle.meaning.specs.facts.Elements.{extends-refl}
+use Rattle.meaning.specs.facts.Elements.{extends_refl}
 
 -- what has no rewrites stays as it is
-pub unrewritten-stays : (es : List RewriteEntry) (r k : ℕ) → rewrites-of es r ≡ none → rewrite-last es (input r k) ≡ input r k
-unrewritten-stays es r k un = ap unmarked (stops-rewrite es (input r k) (rw un))
+pub unrewritten_stays : (es : List RewriteEntry) (r k : ℕ) → rewrites_of es r ≡ none → rewrite_last es (input r k) ≡ input r k
+unrewritten_stays es r k un = ap unmarked (stops_rewrite es (input r k) (rw un))
 
-pub final-respects : (T : Tables) → ((r : ℕ) → ChainsEnd T.rewrites r) → Respects (rewrite-last T.rewrites) T.outputs T
-final-respects T h =
+pub final_respects : (T : Tables) → ((r : ℕ) → ChainsEnd T.rewrites r) → Respects (rewrite_last T.rewrites) T.outputs T
+final_respects T h =
     let es = T.rewrites in
     record {
-      on-const = λ i. ap unmarked (stops-rewrite es (const i) refl);
-      on-held = λ r k. ap unmarked (rewrite-held es r k);
-      on-instr = λ r k. ap unmarked (stops-rewrite es (instr r k) refl);
-      on-output = λ k. ap unmarked (stops-rewrite es (output k) refl);
-      on_bool = λ b. ap unmarked (stops-rewrite es (bool b) refl);
-      on-undef = λ ty. ap unmarked (stops-rewrite es (undef ty) refl);
-      steps = λ v. ap unmarked (sym (rewrite-enough es h (next-value es v) (length es) (omega arith))
-          ∙ chain_steps es (length es) (next-value es v)
-          ∙ sym (chain_steps es (suc (length es)) v) ∙ rewrite-enough es h v (suc (length es)) (omega arith));
-      outputs = extends-refl T.outputs;
+      on_const = λ i. ap unmarked (stops_rewrite es (const i) refl);
+      on_held = λ r k. ap unmarked (rewrite_held es r k);
+      on_instr = λ r k. ap unmarked (stops_rewrite es (instr r k) refl);
+      on_output = λ k. ap unmarked (stops_rewrite es (output k) refl);
+      on_bool = λ b. ap unmarked (stops_rewrite es (bool b) refl);
+      on_undef = λ ty. ap unmarked (stops_rewrite es (undef ty) refl);
+      steps = λ v. ap unmarked (sym (rewrite_enough es h (next_value es v) (length es) (omega arith))
+          ∙ chain_steps es (length es) (next_value es v)
+          ∙ sym (chain_steps es (suc (length es)) v) ∙ rewrite_enough es h v (suc (length es)) (omega arith));
+      outputs = extends_refl T.outputs;
     }

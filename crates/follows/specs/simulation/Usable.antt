@@ -1,8 +1,8 @@
 -- What a region may use, in the shape in which the runs are compared: by its number, its number of inputs and its instructions done.
 use Rattle.std.specs.Prelude.{◌≡◌, List, [], ◌∷◌, ℕ, suc, ◌+◌, ◌≤◌, ◌<◌, length}
-use Rattle.meaning.specs.Graph.{Value, const, input, instr, output, bool, undef, held, Instr, SelectionKind, bool-cond, Edge, ControlInst}
-use Rattle.meaning.specs.Graph.{unreachable, return, exit-invocation, branch, select-branch, Graph, region, no_value}
-use Rattle.format.specs.References.{return-types}
+use Rattle.meaning.specs.Graph.{Value, const, input, instr, output, bool, undef, held, Instr, SelectionKind, bool_cond, Edge, ControlInst}
+use Rattle.meaning.specs.Graph.{unreachable, return, exit_invocation, branch, select_branch, Graph, region, no_value}
+use Rattle.format.specs.References.{return_types}
 
 -- The values that region r may use once k of its instructions are done.
 abbrev pub UsableIn : ℕ → ℕ → ℕ → Value → Type 0
@@ -29,9 +29,9 @@ BlocksUsable r arity k [] = Unit
 BlocksUsable r arity k (b ∷ bs) = BlockUsable r arity k b × BlocksUsable r arity (k + length b) bs
 
 -- The number of the instruction that would follow the blocks, the first being number k.
-abbrev pub after-blocks : ℕ → List (List Instr) → ℕ
-after-blocks k [] = k
-after-blocks k (b ∷ bs) = after-blocks (k + length b) bs
+abbrev pub after_blocks : ℕ → List (List Instr) → ℕ
+after_blocks k [] = k
+after_blocks k (b ∷ bs) = after_blocks (k + length b) bs
 
 module _ (g : Graph) (r : ℕ) where
   abbrev pub arity : ℕ
@@ -39,10 +39,10 @@ module _ (g : Graph) (r : ℕ) where
 
   -- What the terminator may use: all instructions are done.
   abbrev pub EndUsable : Value → Type 0
-  EndUsable v = UsableIn r arity (after-blocks 0 (region g r).blocks) v
+  EndUsable v = UsableIn r arity (after_blocks 0 (region g r).blocks) v
 
   abbrev pub EndsUsable : List Value → Type 0
-  EndsUsable vs = AllUsable r arity (after-blocks 0 (region g r).blocks) vs
+  EndsUsable vs = AllUsable r arity (after_blocks 0 (region g r).blocks) vs
 
   pub record EdgeUsable (e : Edge) : Type 0 where
     pub inputs : EndsUsable e.inputs
@@ -56,15 +56,15 @@ module _ (g : Graph) (r : ℕ) where
   pub record TestUsable (kind : SelectionKind) (v : Value) (es : List Edge) : Type 0 where
     pub scrutinee : EndUsable v
     pub edges : EdgesUsable es
-    pub two : kind ≡ bool-cond → length es ≡ 2
+    pub two : kind ≡ bool_cond → length es ≡ 2
     pub some : 1 ≤ length es
 
   abbrev pub TerminatorUsable : ControlInst → Type 0
   TerminatorUsable unreachable = Unit
-  TerminatorUsable (return vs) = EndsUsable vs × (length vs ≡ length (return-types g))
-  TerminatorUsable (exit-invocation op vs) = EndsUsable vs
+  TerminatorUsable (return vs) = EndsUsable vs × (length vs ≡ length (return_types g))
+  TerminatorUsable (exit_invocation op vs) = EndsUsable vs
   TerminatorUsable (branch e) = EdgeUsable e
-  TerminatorUsable (select-branch kind v es) = TestUsable kind v es
+  TerminatorUsable (select_branch kind v es) = TestUsable kind v es
 
 pub record UsableGraph (g : Graph) : Type 0 where
   pub entry : g.entry < length g.regions

@@ -3,37 +3,37 @@ use Rattle.std.specs.Prelude.{◌≡◌, refl, true, ◌&&◌, ℕ, suc, ◌+◌
 use Rattle.std.proofs.Common.{ap, arith, length-append, eqb-true, ltb-true}
 use mathlib.Core.List.{List, [], ◌∷◌, ◌++◌, map}
 use Rattle.std.proofs.Math.ListN.{length}
-use Rattle.meaning.specs.Graph.{Value, const, input, instr, output, bool, undef, held, Instr, SelectionKind, bool-cond, number, Edge}
-use Rattle.meaning.specs.Graph.{ControlInst, unreachable, return, exit-invocation, branch, select-branch, Graph, region, edges-of, no_value}
-use Rattle.meaning.specs.Lists.{is-in, All}
-use Rattle.meaning.specs.facts.Tests.{clash, and_both, picked-positive}
-use Rattle.format.specs.References.{type-in, instructions, instr-type, behind-all, return-types}
+use Rattle.meaning.specs.Graph.{Value, const, input, instr, output, bool, undef, held, Instr, SelectionKind, bool_cond, number, Edge}
+use Rattle.meaning.specs.Graph.{ControlInst, unreachable, return, exit_invocation, branch, select_branch, Graph, region, edges_of, no_value}
+use Rattle.meaning.specs.Lists.{is_in, All}
+use Rattle.meaning.specs.facts.Tests.{clash, and_both, picked_positive}
+use Rattle.format.specs.References.{type_in, instructions, instr_type, behind_all, return_types}
 use Rattle.format.specs.Valid.{Passed, ValidInstrs, ValidEdge, ValidEnd, TestRight, Valid}
 use Rattle.format.specs.Valid as valid
 use Rattle.nesting.specs.Nesting.{reachable}
-use Rattle.meaning.specs.facts.Members.{first, rest, first-or-rest}
+use Rattle.meaning.specs.facts.Members.{first, rest, first_or_rest}
 use Rattle.follows.specs.Reaches.{Reaches, entry, target}
-use Rattle.follows.specs.counting.Reach.{reachable-sound}
-use Rattle.follows.specs.simulation.Usable.{UsableIn, AllUsable, BlockUsable, BlocksUsable, after-blocks, arity, EndUsable}
+use Rattle.follows.specs.counting.Reach.{reachable_sound}
+use Rattle.follows.specs.simulation.Usable.{UsableIn, AllUsable, BlockUsable, BlocksUsable, after_blocks, arity, EndUsable}
 use Rattle.follows.specs.simulation.Usable.{EndsUsable, EdgeUsable, EdgesUsable, TerminatorUsable, UsableGraph}
-use Rattle.meaning.specs.facts.Elements.{getD-within}
+use Rattle.meaning.specs.facts.Elements.{getD_within}
 
-total-counts : (k : ℕ) (bs : List (List Instr)) → after-blocks k bs ≡ k + length (instructions bs)
+total_counts : (k : ℕ) (bs : List (List Instr)) → after_blocks k bs ≡ k + length (instructions bs)
 unfolding instructions
-total-counts k [] = omega arith
-total-counts k (b ∷ bs) = omega (arith, total-counts (k + length b) bs, length-append b (instructions bs))
+total_counts k [] = omega arith
+total_counts k (b ∷ bs) = omega (arith, total_counts (k + length b) bs, length-append b (instructions bs))
 
 module _ (g : Graph) (r : ℕ) where
-  named : (k : ℕ) (v : Value) → 1 ≤ type-in g r k v → UsableIn r (arity g r) k v
+  named : (k : ℕ) (v : Value) → 1 ≤ type_in g r k v → UsableIn r (arity g r) k v
   named k (const i) h = tt
   named k (bool b) h = tt
   named k (undef t) h = tt
   named k no_value h = absurd (omega arith)
   named k (input q i) h =
-      let p = picked-positive (eqb q r) (get_or (region g r).inputs i 0) h in
-      (eqb-true q r p.0, getD-within (region g r).inputs i p.1)
+      let p = picked_positive (eqb q r) (get_or (region g r).inputs i 0) h in
+      (eqb-true q r p.0, getD_within (region g r).inputs i p.1)
   named k (instr q i) h =
-      let p = and_both (eqb q r) (ltb i k) (picked-positive (eqb q r && ltb i k) (instr-type (region g r) i) h).0 in
+      let p = and_both (eqb q r) (ltb i k) (picked_positive (eqb q r && ltb i k) (instr_type (region g r) i) h).0 in
       (eqb-true q r p.0, ltb-true i k p.1)
   named k (held q i) h = absurd (omega arith)
   named k (output o) h = absurd (omega arith)
@@ -54,74 +54,74 @@ module _ (g : Graph) (r : ℕ) where
       let z : k + suc (length b) ≡ suc k + length b = omega arith in
       record { block = (all_named k i.reads h.reads, s.block); behind = rw z s.behind }
 
-  blocks-usable : (k : ℕ) (bs : List (List Instr)) → ValidInstrs g r k (instructions bs) → BlocksUsable r (arity g r) k bs
+  blocks_usable : (k : ℕ) (bs : List (List Instr)) → ValidInstrs g r k (instructions bs) → BlocksUsable r (arity g r) k bs
   unfolding instructions
-  blocks-usable k [] h = tt
-  blocks-usable k (b ∷ bs) h = let s = split k b (instructions bs) h in (s.block, blocks-usable (k + length b) bs s.behind)
+  blocks_usable k [] h = tt
+  blocks_usable k (b ∷ bs) h = let s = split k b (instructions bs) h in (s.block, blocks_usable (k + length b) bs s.behind)
 
   -- behind all instructions
-  last : after-blocks 0 (region g r).blocks ≡ behind-all g r
-  last = omega (arith, total-counts 0 (region g r).blocks)
+  last : after_blocks 0 (region g r).blocks ≡ behind_all g r
+  last = omega (arith, total_counts 0 (region g r).blocks)
 
-  end-usable : (v : Value) → valid.Usable g r (behind-all g r) v → EndUsable g r v
-  end-usable v h = rw last (named (behind-all g r) v h.typed)
+  end_usable : (v : Value) → valid.Usable g r (behind_all g r) v → EndUsable g r v
+  end_usable v h = rw last (named (behind_all g r) v h.typed)
 
   passed : (ts : List ℕ) (vs : List Value) → Passed g r ts vs → EndsUsable g r vs × (length vs ≡ length ts)
   passed [] [] h = (tt, refl)
   passed [] (v ∷ vs) h = absurd h
   passed (t ∷ ts) [] h = absurd h
-  passed (t ∷ ts) (v ∷ vs) (h, _, hs) = let p = passed ts vs hs in ((end-usable v h, p.0), ap suc p.1)
+  passed (t ∷ ts) (v ∷ vs) (h, _, hs) = let p = passed ts vs hs in ((end_usable v h, p.0), ap suc p.1)
 
-  edge-usable : (e : Edge) → ValidEdge g r e → EdgeUsable g r e
-  edge-usable e h = let p = passed (region g e.target).inputs e.inputs h.inputs in
+  edge_usable : (e : Edge) → ValidEdge g r e → EdgeUsable g r e
+  edge_usable e h = let p = passed (region g e.target).inputs e.inputs h.inputs in
       record { inputs = p.0; target = h.target; many = p.1 }
 
-  edges-usable : (es : List Edge) → All (ValidEdge g r) es → EdgesUsable g r es
-  edges-usable [] h = tt
-  edges-usable (e ∷ es) (h, hs) = (edge-usable e h, edges-usable es hs)
+  edges_usable : (es : List Edge) → All (ValidEdge g r) es → EdgesUsable g r es
+  edges_usable [] h = tt
+  edges_usable (e ∷ es) (h, hs) = (edge_usable e h, edges_usable es hs)
 
-  test-some : (kind : SelectionKind) (v : Value) (es : List Edge) → TestRight g r kind v es → 1 ≤ length es
-  test-some bool-cond v es h = omega (arith, h.1)
-  test-some number v es h = h.0
+  test_some : (kind : SelectionKind) (v : Value) (es : List Edge) → TestRight g r kind v es → 1 ≤ length es
+  test_some bool_cond v es h = omega (arith, h.1)
+  test_some number v es h = h.0
 
-  test-two : (kind : SelectionKind) (v : Value) (es : List Edge) → TestRight g r kind v es → kind ≡ bool-cond → length es ≡ 2
-  test-two bool-cond v es h e = h.1
-  test-two number v es h e = cc
+  test_two : (kind : SelectionKind) (v : Value) (es : List Edge) → TestRight g r kind v es → kind ≡ bool_cond → length es ≡ 2
+  test_two bool_cond v es h e = h.1
+  test_two number v es h e = cc
 
-  terminator-usable : (c : ControlInst) → ValidEnd g r c → TerminatorUsable g r c
-  terminator-usable unreachable h = tt
-  terminator-usable (return vs) h = passed (return-types g) vs h.1
-  terminator-usable (exit-invocation op vs) h = rw last (all_named (behind-all g r) vs h.1)
-  terminator-usable (branch e) h = edge-usable e h
-  terminator-usable (select-branch kind v es) (h, t, hs) =
-      record { scrutinee = end-usable v h; edges = edges-usable es hs; two = test-two kind v es t; some = test-some kind v es t }
+  terminator_usable : (c : ControlInst) → ValidEnd g r c → TerminatorUsable g r c
+  terminator_usable unreachable h = tt
+  terminator_usable (return vs) h = passed (return_types g) vs h.1
+  terminator_usable (exit_invocation op vs) h = rw last (all_named (behind_all g r) vs h.1)
+  terminator_usable (branch e) h = edge_usable e h
+  terminator_usable (select_branch kind v es) (h, t, hs) =
+      record { scrutinee = end_usable v h; edges = edges_usable es hs; two = test_two kind v es t; some = test_some kind v es t }
 
-pub usable-graph : (g : Graph) → Valid g → UsableGraph g
-usable-graph g h = record {
+pub usable_graph : (g : Graph) → Valid g → UsableGraph g
+usable_graph g h = record {
   entry = h.entry;
-  blocks = λ r l. blocks-usable g r 0 (region g r).blocks (h.regions r l).instructions;
-  terminator = λ r l. terminator-usable g r (region g r).terminator (h.regions r l).terminator;
+  blocks = λ r l. blocks_usable g r 0 (region g r).blocks (h.regions r l).instructions;
+  terminator = λ r l. terminator_usable g r (region g r).terminator (h.regions r l).terminator;
 }
 
 -- ---- what the entry reaches is a region
-pub edges-of-usable : (g : Graph) (r : ℕ) (c : ControlInst) → TerminatorUsable g r c → EdgesUsable g r (edges-of c)
-edges-of-usable g r unreachable h = tt
-edges-of-usable g r (return vs) h = tt
-edges-of-usable g r (exit-invocation op vs) h = tt
-edges-of-usable g r (branch e) h = (h, tt)
-edges-of-usable g r (select-branch kind v es) h = h.edges
+pub edges_of_usable : (g : Graph) (r : ℕ) (c : ControlInst) → TerminatorUsable g r c → EdgesUsable g r (edges_of c)
+edges_of_usable g r unreachable h = tt
+edges_of_usable g r (return vs) h = tt
+edges_of_usable g r (exit_invocation op vs) h = tt
+edges_of_usable g r (branch e) h = (h, tt)
+edges_of_usable g r (select_branch kind v es) h = h.edges
 
-target-region : (g : Graph) (r x : ℕ) (es : List Edge) → EdgesUsable g r es → is-in x (map (λ e. e.target) es) ≡ true
+target_region : (g : Graph) (r x : ℕ) (es : List Edge) → EdgesUsable g r es → is_in x (map (λ e. e.target) es) ≡ true
     → x < length g.regions
-target-region g r x [] h i = absurd (clash (cc))
-target-region g r x (e ∷ es) (h, hs) i =
-    elim (first-or-rest x e.target (map (λ e. e.target) es) i) [ first q ↦ rw q h.target | rest k ↦ target-region g r x es hs k ]
+target_region g r x [] h i = absurd (clash (cc))
+target_region g r x (e ∷ es) (h, hs) i =
+    elim (first_or_rest x e.target (map (λ e. e.target) es) i) [ first q ↦ rw q h.target | rest k ↦ target_region g r x es hs k ]
 
-reaches-region : (g : Graph) → UsableGraph g → (x : ℕ) → Reaches g x → x < length g.regions
-reaches-region g u x entry = u.entry
-reaches-region g u x (target {r = r} y h i) =
-    target-region g r y (edges-of (region g r).terminator)
-    (edges-of-usable g r (region g r).terminator (u.terminator r (reaches-region g u r h))) i
+reaches_region : (g : Graph) → UsableGraph g → (x : ℕ) → Reaches g x → x < length g.regions
+reaches_region g u x entry = u.entry
+reaches_region g u x (target {r = r} y h i) =
+    target_region g r y (edges_of (region g r).terminator)
+    (edges_of_usable g r (region g r).terminator (u.terminator r (reaches_region g u r h))) i
 
-pub reachable-region : (g : Graph) → UsableGraph g → (x : ℕ) → is-in x (reachable g) ≡ true → x < length g.regions
-reachable-region g u x i = reaches-region g u x (reachable-sound g x i)
+pub reachable_region : (g : Graph) → UsableGraph g → (x : ℕ) → is_in x (reachable g) ≡ true → x < length g.regions
+reachable_region g u x i = reaches_region g u x (reachable_sound g x i)

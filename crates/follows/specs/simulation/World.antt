@@ -2,11 +2,11 @@
 use Rattle.std.specs.Prelude.{Bool, true, List, ◌≡◌, ◌<◌, ℕ, length}
 use Rattle.std.proofs.Math.Option.{Option}
 use Rattle.std.proofs.Common.{◌∙◌, sym}
-use Rattle.meaning.specs.Runs.{Nodes, Ended, run-from, Ran, run-nodes, Env, Event, Rule, RunState, Word, mark, word}
+use Rattle.meaning.specs.Runs.{Nodes, Ended, run_from, Ran, run_nodes, Env, Event, Rule, RunState, Word, mark, word}
 use Rattle.meaning.specs.Graph.{Graph, bool, undef}
-use Rattle.meaning.specs.Lists.{is-in, pick}
-use Rattle.format.specs.References.{return-types}
-use Rattle.nesting.specs.Nesting.{reachable, DeferredTarget, to-region, to-return}
+use Rattle.meaning.specs.Lists.{is_in, pick}
+use Rattle.format.specs.References.{return_types}
+use Rattle.nesting.specs.Nesting.{reachable, DeferredTarget, to_region, to_return}
 use Rattle.follows.specs.simulation.Usable.{UsableGraph, arity}
 
 pub record World : Type 0 where
@@ -15,15 +15,15 @@ pub record World : Type 0 where
   pub rule : Rule
   pub base : Env
   pub on_bool : (b : Bool) → base (bool b) ≡ word (pick b 1 0)
-  pub on-undef : (ty : ℕ) → base (undef ty) ≡ mark
+  pub on_undef : (ty : ℕ) → base (undef ty) ≡ mark
 
 module _ (W : World) where
   -- The graph's run from a region, and a run of children.
-  abbrev pub from-region : ℕ → ℕ → List Word → List Event → Option Ended
-  from-region n r ws h = run-from W.rule W.g W.base n r ws h
+  abbrev pub from_region : ℕ → ℕ → List Word → List Event → Option Ended
+  from_region n r ws h = run_from W.rule W.g W.base n r ws h
 
   abbrev pub runs : ℕ → Nodes → RunState → Ran
-  runs b ks s = run-nodes W.rule W.g.test-cost b ks s
+  runs b ks s = run_nodes W.rule W.g.test_cost b ks s
 
   abbrev pub size : ℕ
   size = length W.g.regions
@@ -33,13 +33,13 @@ module _ (W : World) where
 
   -- The entry reaches it.
   abbrev pub Live : ℕ → Type 0
-  Live r = is-in r (reachable W.g) ≡ true
+  Live r = is_in r (reachable W.g) ≡ true
 
   -- So many values can be passed to the target.
   abbrev pub Fits : DeferredTarget → ℕ → Type 0
-  Fits (to-region r) n = (r < size) × (n ≡ ar r) × Live r
-  Fits to-return n = n ≡ length (return-types W.g)
+  Fits (to_region r) n = (r < size) × (n ≡ ar r) × Live r
+  Fits to_return n = n ≡ length (return_types W.g)
 
-  pub fits-same : (x : DeferredTarget) (a b : ℕ) → Fits x a → Fits x b → a ≡ b
-  fits-same (to-region r) a b p q = p.1 ∙ sym q.1
-  fits-same to-return a b p q = p ∙ sym q
+  pub fits_same : (x : DeferredTarget) (a b : ℕ) → Fits x a → Fits x b → a ≡ b
+  fits_same (to_region r) a b p q = p.1 ∙ sym q.1
+  fits_same to_return a b p q = p ∙ sym q

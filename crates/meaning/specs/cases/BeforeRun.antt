@@ -2,8 +2,8 @@
 use Rattle.std.specs.Prelude.{◌≡◌, refl, false, List, [], ◌∷◌}
 use Rattle.std.proofs.Math.Option.{some}
 use Rattle.meaning.specs.Graph.{Value, input, instr, output, held, no_value, return, branch, Graph}
-use Rattle.meaning.specs.Runs.{⟨⟩, Given, Event, mark, returned, entry-words, put-inputs, put, do-instr, do-block, do-blocks}
-use Rattle.meaning.specs.Runs.{run-from, graph-run, run-nodes, ends_as, nested-run}
+use Rattle.meaning.specs.Runs.{⟨⟩, Given, Event, mark, returned, entry_words, put_inputs, put, do_instr, do_block, do_blocks}
+use Rattle.meaning.specs.Runs.{run_from, graph_run, run_nodes, ends_as, nested_run}
 
 -- What no run has given a word to. No accepted record has the last three.
 abbrev nothing_yet : List Value
@@ -13,7 +13,7 @@ nothing_yet = input 1 0 ∷ instr 0 0 ∷ output 0 ∷ held 1 0 ∷ no_value ∷
 abbrev g : Graph
 g = record {
   entry = 0;
-  test-cost = 2;
+  test_cost = 2;
   constants = [];
   regions =
       record {
@@ -28,17 +28,17 @@ g = record {
 }
 
 abbrev x : Given
-x = record { constants = λ i. 0; entry-inputs = λ k. 0; rule = λ op reads before. 0 }
+x = record { constants = λ i. 0; entry_inputs = λ k. 0; rule = λ op reads before. 0 }
 
 abbrev event : Event
 event = record { region = 0; index = 0; opcode = 5; reads = [] }
 
-pub own_alone : graph-run g x 2
+pub own_alone : graph_run g x 2
     ≡ some (record { end = returned (mark ∷ mark ∷ mark ∷ mark ∷ mark ∷ []); events = event ∷ [] })
-unfolding graph-run run-from entry-words put-inputs put do-blocks do-block do-instr
+unfolding graph_run run_from entry_words put_inputs put do_blocks do_block do_instr
 own_alone = refl
 
-pub no_words : nested-run g x ⟨⟩ (some nothing_yet) 0
-    ≡ ends_as (record { end = returned (mark ∷ mark ∷ mark ∷ mark ∷ mark ∷ []); events = []; cost = 0; over-limit = false })
-unfolding nested-run entry-words put-inputs run-nodes
+pub no_words : nested_run g x ⟨⟩ (some nothing_yet) 0
+    ≡ ends_as (record { end = returned (mark ∷ mark ∷ mark ∷ mark ∷ mark ∷ []); events = []; cost = 0; over_limit = false })
+unfolding nested_run entry_words put_inputs run_nodes
 no_words = refl

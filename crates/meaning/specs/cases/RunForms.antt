@@ -1,8 +1,8 @@
 -- Small graphs with their nested forms, both by hand: what runs are computed of.
 use Rattle.std.specs.Prelude.{true, false, List, [], ◌∷◌, ℕ}
 use Rattle.std.proofs.Math.Option.{Option, none, some}
-use Rattle.meaning.specs.Graph.{Value, const, input, instr, output, bool, undef, Instr, SelectionKind, bool-cond, number, Graph}
-use Rattle.meaning.specs.Graph.{Region, Edge, ControlInst, unreachable, return, exit-invocation, branch, select-branch}
+use Rattle.meaning.specs.Graph.{Value, const, input, instr, output, bool, undef, Instr, SelectionKind, bool_cond, number, Graph}
+use Rattle.meaning.specs.Graph.{Region, Edge, ControlInst, unreachable, return, exit_invocation, branch, select_branch}
 use Rattle.meaning.specs.Runs.{OutputDecl, Node, block, select, loop, exit, Nodes, ⟨⟩, ◌▸◌, Cases, ∅, case}
 
 -- ---- in few words
@@ -24,39 +24,39 @@ abbrev one : {A : Type 0} → A → List A
 one a = a ∷ []
 
 -- entry, test cost, constants' types, regions
-abbrev graph-from : ℕ → ℕ → List ℕ → List Region → Graph
-graph-from r c ts rs = record { entry = r; test-cost = c; constants = ts; regions = rs }
+abbrev graph_from : ℕ → ℕ → List ℕ → List Region → Graph
+graph_from r c ts rs = record { entry = r; test_cost = c; constants = ts; regions = rs }
 
 -- The entry is region 0.
 abbrev graph : ℕ → List ℕ → List Region → Graph
-graph c ts rs = graph-from 0 c ts rs
+graph c ts rs = graph_from 0 c ts rs
 
-abbrev body-input : ℕ → ℕ → Value
-body-input r k = input r k
+abbrev body_input : ℕ → ℕ → Value
+body_input r k = input r k
 
-abbrev block-node : ℕ → ℕ → ℕ → List Instr → Node
-block-node n r k is = block n r k is
+abbrev block_node : ℕ → ℕ → ℕ → List Instr → Node
+block_node n r k is = block n r k is
 
-abbrev output-of : ℕ → ℕ → OutputDecl
-output-of o t = record { number = o; type = t }
+abbrev output_of : ℕ → ℕ → OutputDecl
+output_of o t = record { number = o; type = t }
 
-abbrev select-node : ℕ → SelectionKind → Value → List OutputDecl → Cases → Node
-select-node n kind v os cs = select (record { number = n; kind = kind; scrutinee = v; outputs = os }) cs
+abbrev select_node : ℕ → SelectionKind → Value → List OutputDecl → Cases → Node
+select_node n kind v os cs = select (record { number = n; kind = kind; scrutinee = v; outputs = os }) cs
 
-abbrev case-of : ℕ → Nodes → List Value → Cases → Cases
-case-of r ks vs cs = case (record { region = r; outputs = vs }) ks cs
+abbrev case_of : ℕ → Nodes → List Value → Cases → Cases
+case_of r ks vs cs = case (record { region = r; outputs = vs }) ks cs
 
 -- node, first inputs, body region, its inputs' types, turn limit, children, outputs, repeat value
-abbrev loop-node : ℕ → List Value → ℕ → List ℕ → ℕ → Nodes → List Value → Value → Node
-loop-node n vs r ts limit ks us v =
-    loop (record { number = n; initial-inputs = vs; body = r; types = ts; limit = limit; outputs = us; repeat = v }) ks
+abbrev loop_node : ℕ → List Value → ℕ → List ℕ → ℕ → Nodes → List Value → Value → Node
+loop_node n vs r ts limit ks us v =
+    loop (record { number = n; initial_inputs = vs; body = r; types = ts; limit = limit; outputs = us; repeat = v }) ks
 
 -- A case without children and outputs.
-abbrev empty-case : ℕ → Cases → Cases
-empty-case r cs = case-of r ⟨⟩ [] cs
+abbrev empty_case : ℕ → Cases → Cases
+empty_case r cs = case_of r ⟨⟩ [] cs
 
-abbrev exit-node : ℕ → ℕ → List Value → Node
-exit-node n o vs = exit n o vs
+abbrev exit_node : ℕ → ℕ → List Value → Node
+exit_node n o vs = exit n o vs
 
 -- A graph with its nested form: children, and the entry's outputs, none of a closed form.
 pub record Formed : Type 0 where
@@ -80,15 +80,15 @@ reads_all =
     ∷ []
     )
     ) (
-    block-node 0 0 0 (one (op 3 2 1 (const 0 ∷ input 0 0 ∷ undef 2 ∷ [])))
-    ▸ block-node 1 0 1 (op 4 2 2 (instr 0 0 ∷ bool true ∷ bool false ∷ []) ∷ op 5 0 3 [] ∷ []) ▸ ⟨⟩
+    block_node 0 0 0 (one (op 3 2 1 (const 0 ∷ input 0 0 ∷ undef 2 ∷ [])))
+    ▸ block_node 1 0 1 (op 4 2 2 (instr 0 0 ∷ bool true ∷ bool false ∷ []) ∷ op 5 0 3 [] ∷ []) ▸ ⟨⟩
     ) (some (instr 0 1 ∷ input 0 0 ∷ undef 2 ∷ const 0 ∷ []))
 
 -- The entry is region 1, with two inputs, of which the second is read and returned, and with three blocks, the first of two instructions.
-abbrev pub second-returned : Formed
-second-returned =
+abbrev pub second_returned : Formed
+second_returned =
     formed (
-    graph-from 1 2 [] (
+    graph_from 1 2 [] (
     at (2 ∷ []) [] 1 (return (input 0 0 ∷ [])) []
     ∷ at (2 ∷ 2 ∷ []) ((op 3 2 1 (input 1 1 ∷ []) ∷ op 4 2 2 (instr 1 0 ∷ []) ∷ [])
     ∷ one (op 5 2 3 (instr 1 1 ∷ []))
@@ -98,9 +98,9 @@ second-returned =
     ∷ []
     )
     ) (
-    block-node 0 1 0 (op 3 2 1 (input 1 1 ∷ []) ∷ op 4 2 2 (instr 1 0 ∷ []) ∷ [])
-    ▸ block-node 1 1 2 (one (op 5 2 3 (instr 1 1 ∷ [])))
-    ▸ block-node 2 1 3 (one (op 6 0 4 (instr 1 2 ∷ []))) ▸ ⟨⟩
+    block_node 0 1 0 (op 3 2 1 (input 1 1 ∷ []) ∷ op 4 2 2 (instr 1 0 ∷ []) ∷ [])
+    ▸ block_node 1 1 2 (one (op 5 2 3 (instr 1 1 ∷ [])))
+    ▸ block_node 2 1 3 (one (op 6 0 4 (instr 1 2 ∷ []))) ▸ ⟨⟩
     ) (some (input 1 1 ∷ []))
 
 -- A number test of three places, each of which returns a constant of its own.
@@ -108,17 +108,17 @@ abbrev pub by_number : Formed
 by_number =
     formed (
     graph 5 (2 ∷ 2 ∷ 2 ∷ []) (
-    at (2 ∷ []) [] 1 (select-branch number (input 0 0) (to 1 [] ∷ to 2 [] ∷ to 3 [] ∷ [])) []
+    at (2 ∷ []) [] 1 (select_branch number (input 0 0) (to 1 [] ∷ to 2 [] ∷ to 3 [] ∷ [])) []
     ∷ plain [] (return (const 0 ∷ []))
     ∷ plain [] (return (const 1 ∷ []))
     ∷ plain (one (one (op 6 0 4 []))) (return (const 2 ∷ []))
     ∷ []
     )
     ) (
-    select-node 1 number (input 0 0) (output-of 0 2 ∷ [])
-    (case-of 1 ⟨⟩ (const 0 ∷ [])
-    (case-of 2 ⟨⟩ (const 1 ∷ [])
-    (case-of 3 (block-node 0 3 0 (one (op 6 0 4 [])) ▸ ⟨⟩) (const 2 ∷ []) ∅))) ▸ ⟨⟩
+    select_node 1 number (input 0 0) (output_of 0 2 ∷ [])
+    (case_of 1 ⟨⟩ (const 0 ∷ [])
+    (case_of 2 ⟨⟩ (const 1 ∷ [])
+    (case_of 3 (block_node 0 3 0 (one (op 6 0 4 [])) ▸ ⟨⟩) (const 2 ∷ []) ∅))) ▸ ⟨⟩
     ) (some (output 0 ∷ []))
 
 -- A boolean test of a word.
@@ -126,43 +126,43 @@ abbrev pub by_word : Formed
 by_word =
     formed (
     graph 5 [] (
-    at (1 ∷ []) [] 1 (select-branch bool-cond (input 0 0) (to 1 [] ∷ to 2 [] ∷ [])) []
+    at (1 ∷ []) [] 1 (select_branch bool_cond (input 0 0) (to 1 [] ∷ to 2 [] ∷ [])) []
     ∷ plain [] (return (bool true ∷ []))
     ∷ plain [] (return (bool false ∷ []))
     ∷ []
     )
     ) (
-    select-node 0 bool-cond (input 0 0) (output-of 0 1 ∷ []) (case-of 1 ⟨⟩ (bool true ∷ []) (case-of 2 ⟨⟩ (bool false ∷ []) ∅)) ▸ ⟨⟩
+    select_node 0 bool_cond (input 0 0) (output_of 0 1 ∷ []) (case_of 1 ⟨⟩ (bool true ∷ []) (case_of 2 ⟨⟩ (bool false ∷ []) ∅)) ▸ ⟨⟩
     ) (some (output 0 ∷ []))
 
-abbrev leaves-body-1 : Nodes
-leaves-body-1 =
-    block-node 1 1 0 (one (op 8 1 6 []))
-    ▸ select-node 5 bool-cond (instr 1 0) [] (case-of 2 (exit-node 3 9 (instr 1 0 ∷ []) ▸ ⟨⟩) [] (empty-case 7 ∅))
-    ▸ block-node 2 3 0 (one (op 6 1 7 []))
-    ▸ select-node 4 bool-cond (instr 3 0) [] (empty-case 5 (empty-case 6 ∅)) ▸ ⟨⟩
+abbrev leaves_body_1 : Nodes
+leaves_body_1 =
+    block_node 1 1 0 (one (op 8 1 6 []))
+    ▸ select_node 5 bool_cond (instr 1 0) [] (case_of 2 (exit_node 3 9 (instr 1 0 ∷ []) ▸ ⟨⟩) [] (empty_case 7 ∅))
+    ▸ block_node 2 3 0 (one (op 6 1 7 []))
+    ▸ select_node 4 bool_cond (instr 3 0) [] (empty_case 5 (empty_case 6 ∅)) ▸ ⟨⟩
 
 -- An exit inside a loop inside a select: the loop is left by the exit, or by its test.
 abbrev pub leaves : Formed
 leaves =
     formed (
     graph 1 [] (
-    plain (one (one (op 7 1 5 []))) (select-branch bool-cond (instr 0 0) (to 1 [] ∷ to 4 [] ∷ []))
-    ∷ at [] (one (one (op 8 1 6 []))) 4 (select-branch bool-cond (instr 1 0) (to 2 (instr 1 0 ∷ []) ∷ to 3 [] ∷ [])) (4 ∷ [])
-    ∷ at (1 ∷ []) [] 1 (exit-invocation 9 (input 2 0 ∷ [])) []
-    ∷ plain (one (one (op 6 1 7 []))) (select-branch bool-cond (instr 3 0) (to 1 [] ∷ to 4 [] ∷ []))
+    plain (one (one (op 7 1 5 []))) (select_branch bool_cond (instr 0 0) (to 1 [] ∷ to 4 [] ∷ []))
+    ∷ at [] (one (one (op 8 1 6 []))) 4 (select_branch bool_cond (instr 1 0) (to 2 (instr 1 0 ∷ []) ∷ to 3 [] ∷ [])) (4 ∷ [])
+    ∷ at (1 ∷ []) [] 1 (exit_invocation 9 (input 2 0 ∷ [])) []
+    ∷ plain (one (one (op 6 1 7 []))) (select_branch bool_cond (instr 3 0) (to 1 [] ∷ to 4 [] ∷ []))
     ∷ plain [] (return [])
     ∷ []
     )
     ) (
-    block-node 0 0 0 (one (op 7 1 5 []))
-    ▸ select-node 7 bool-cond (instr 0 0) [] (case-of 8 (loop-node 6 [] 1 [] 4 leaves-body-1 [] (instr 3 0) ▸ ⟨⟩) [] (empty-case 9 ∅)) ▸ ⟨⟩
+    block_node 0 0 0 (one (op 7 1 5 []))
+    ▸ select_node 7 bool_cond (instr 0 0) [] (case_of 8 (loop_node 6 [] 1 [] 4 leaves_body_1 [] (instr 3 0) ▸ ⟨⟩) [] (empty_case 9 ∅)) ▸ ⟨⟩
     ) (some [])
 
-abbrev swaps-body-1 : Nodes
-swaps-body-1 =
-    block-node 0 1 0 (one (op 5 1 6 (body-input 1 0 ∷ body-input 1 1 ∷ [])))
-    ▸ select-node 2 bool-cond (instr 1 0) [] (empty-case 3 (empty-case 4 ∅)) ▸ ⟨⟩
+abbrev swaps_body_1 : Nodes
+swaps_body_1 =
+    block_node 0 1 0 (one (op 5 1 6 (body_input 1 0 ∷ body_input 1 1 ∷ [])))
+    ▸ select_node 2 bool_cond (instr 1 0) [] (empty_case 3 (empty_case 4 ∅)) ▸ ⟨⟩
 
 -- A loop of limit 3 whose two inputs are swapped each turn, and read after it.
 abbrev pub swaps : Formed
@@ -171,29 +171,29 @@ swaps =
     graph 2 (2 ∷ 2 ∷ []) (
     plain [] (branch (to 1 (const 0 ∷ const 1 ∷ [])))
     ∷ at (2 ∷ 2 ∷ []) (one (one (op 5 1 6 (input 1 0 ∷ input 1 1 ∷ [])))) 3
-    (select-branch bool-cond (instr 1 0) (to 1 (input 1 1 ∷ input 1 0 ∷ []) ∷ to 2 (input 1 0 ∷ input 1 1 ∷ []) ∷ [])) (2 ∷ [])
+    (select_branch bool_cond (instr 1 0) (to 1 (input 1 1 ∷ input 1 0 ∷ []) ∷ to 2 (input 1 0 ∷ input 1 1 ∷ []) ∷ [])) (2 ∷ [])
     ∷ at (2 ∷ 2 ∷ []) (one (one (op 6 0 1 (input 2 0 ∷ input 2 1 ∷ [])))) 1 (return (input 2 0 ∷ input 2 1 ∷ [])) []
     ∷ []
     )
     ) (
-    loop-node 3 (const 0 ∷ const 1 ∷ []) 1 (2 ∷ 2 ∷ []) 3 swaps-body-1 (body-input 1 1 ∷ body-input 1 0 ∷ []) (instr 1 0)
-    ▸ block-node 1 2 0 (one (op 6 0 1 (body-input 1 0 ∷ body-input 1 1 ∷ []))) ▸ ⟨⟩
-    ) (some (body-input 1 0 ∷ body-input 1 1 ∷ []))
+    loop_node 3 (const 0 ∷ const 1 ∷ []) 1 (2 ∷ 2 ∷ []) 3 swaps_body_1 (body_input 1 1 ∷ body_input 1 0 ∷ []) (instr 1 0)
+    ▸ block_node 1 2 0 (one (op 6 0 1 (body_input 1 0 ∷ body_input 1 1 ∷ []))) ▸ ⟨⟩
+    ) (some (body_input 1 0 ∷ body_input 1 1 ∷ []))
 
 -- A closed form: it ends by exit, or runs off its end.
-abbrev pub ends-by-exit : Formed
-ends-by-exit =
+abbrev pub ends_by_exit : Formed
+ends_by_exit =
     formed (
     graph 2 (2 ∷ []) (
-    at (1 ∷ []) [] 1 (select-branch bool-cond (input 0 0) (to 1 [] ∷ to 2 [] ∷ [])) []
-    ∷ plain (one (one (op 8 0 3 (const 0 ∷ [])))) (exit-invocation 9 (const 0 ∷ []))
+    at (1 ∷ []) [] 1 (select_branch bool_cond (input 0 0) (to 1 [] ∷ to 2 [] ∷ [])) []
+    ∷ plain (one (one (op 8 0 3 (const 0 ∷ [])))) (exit_invocation 9 (const 0 ∷ []))
     ∷ plain [] unreachable
     ∷ []
     )
     ) (
-    select-node 2 bool-cond (input 0 0) []
-    (case-of 1 (block-node 0 1 0 (one (op 8 0 3 (const 0 ∷ []))) ▸ exit-node 1 9 (const 0 ∷ []) ▸ ⟨⟩) []
-    (empty-case 2 ∅)) ▸ ⟨⟩
+    select_node 2 bool_cond (input 0 0) []
+    (case_of 1 (block_node 0 1 0 (one (op 8 0 3 (const 0 ∷ []))) ▸ exit_node 1 9 (const 0 ∷ []) ▸ ⟨⟩) []
+    (empty_case 2 ∅)) ▸ ⟨⟩
     ) none
 
 -- Unreachable is no end of the graph's run; the nested run goes on behind the select.
@@ -201,75 +201,75 @@ abbrev pub goes_on : Formed
 goes_on =
     formed (
     graph 2 [] (
-    at (1 ∷ []) [] 1 (select-branch bool-cond (input 0 0) (to 1 [] ∷ to 2 [] ∷ [])) []
+    at (1 ∷ []) [] 1 (select_branch bool_cond (input 0 0) (to 1 [] ∷ to 2 [] ∷ [])) []
     ∷ plain (one (one (op 8 0 3 []))) unreachable
     ∷ plain (one (one (op 9 0 4 []))) (return (bool true ∷ []))
     ∷ []
     )
     ) (
-    select-node 2 bool-cond (input 0 0) [] (case-of 1 (block-node 0 1 0 (one (op 8 0 3 [])) ▸ ⟨⟩) [] (empty-case 3 ∅))
-    ▸ block-node 1 2 0 (one (op 9 0 4 [])) ▸ ⟨⟩
+    select_node 2 bool_cond (input 0 0) [] (case_of 1 (block_node 0 1 0 (one (op 8 0 3 [])) ▸ ⟨⟩) [] (empty_case 3 ∅))
+    ▸ block_node 1 2 0 (one (op 9 0 4 [])) ▸ ⟨⟩
     ) (some (bool true ∷ []))
 
 -- A boolean test of a mark, in a whole form.
-abbrev pub mark-tested : Formed
-mark-tested =
+abbrev pub mark_tested : Formed
+mark_tested =
     formed (
     graph 2 [] (
     plain [] (branch (to 1 (undef 1 ∷ [])))
-    ∷ at (1 ∷ []) [] 1 (select-branch bool-cond (input 1 0) (to 2 [] ∷ to 3 [] ∷ [])) []
+    ∷ at (1 ∷ []) [] 1 (select_branch bool_cond (input 1 0) (to 2 [] ∷ to 3 [] ∷ [])) []
     ∷ plain (one (one (op 8 0 3 []))) (return (bool true ∷ []))
     ∷ plain (one (one (op 9 0 4 []))) (return (bool false ∷ []))
     ∷ []
     )
     ) (
-    select-node 2 bool-cond (undef 1) (output-of 0 1 ∷ [])
-    (case-of 2 (block-node 0 2 0 (one (op 8 0 3 [])) ▸ ⟨⟩) (bool true ∷ [])
-    (case-of 3 (block-node 1 3 0 (one (op 9 0 4 [])) ▸ ⟨⟩) (bool false ∷ []) ∅)) ▸ ⟨⟩
+    select_node 2 bool_cond (undef 1) (output_of 0 1 ∷ [])
+    (case_of 2 (block_node 0 2 0 (one (op 8 0 3 [])) ▸ ⟨⟩) (bool true ∷ [])
+    (case_of 3 (block_node 1 3 0 (one (op 9 0 4 [])) ▸ ⟨⟩) (bool false ∷ []) ∅)) ▸ ⟨⟩
     ) (some (output 0 ∷ []))
 
 -- A number test of a mark, in a closed form.
-abbrev pub mark-tested-closed : Formed
-mark-tested-closed =
+abbrev pub mark_tested_closed : Formed
+mark_tested_closed =
     formed (
     graph 2 [] (
-    plain [] (select-branch number (undef 7) (to 1 [] ∷ to 2 [] ∷ []))
-    ∷ plain [] (exit-invocation 1 [])
-    ∷ plain [] (exit-invocation 2 [])
+    plain [] (select_branch number (undef 7) (to 1 [] ∷ to 2 [] ∷ []))
+    ∷ plain [] (exit_invocation 1 [])
+    ∷ plain [] (exit_invocation 2 [])
     ∷ []
     )
     ) (
-    select-node 2 number (undef 7) [] (case-of 1 (exit-node 0 1 [] ▸ ⟨⟩) [] (case-of 2 (exit-node 1 2 [] ▸ ⟨⟩) [] ∅)) ▸ ⟨⟩
+    select_node 2 number (undef 7) [] (case_of 1 (exit_node 0 1 [] ▸ ⟨⟩) [] (case_of 2 (exit_node 1 2 [] ▸ ⟨⟩) [] ∅)) ▸ ⟨⟩
     ) none
 
-abbrev mark-repeated-body-1 : Nodes
-mark-repeated-body-1 =
-    block-node 0 1 0 (one (op 5 2 6 (body-input 1 0 ∷ [])))
-    ▸ select-node 2 number (body-input 1 0) (output-of 0 1 ∷ [])
-    (case-of 4 ⟨⟩ (bool true ∷ [])
-    (case-of 5 ⟨⟩ (bool false ∷ [])
-    (case-of 3 (block-node 1 3 0 (one (op 8 0 3 [])) ▸ ⟨⟩) (undef 1 ∷ []) ∅))) ▸ ⟨⟩
+abbrev mark_repeated_body_1 : Nodes
+mark_repeated_body_1 =
+    block_node 0 1 0 (one (op 5 2 6 (body_input 1 0 ∷ [])))
+    ▸ select_node 2 number (body_input 1 0) (output_of 0 1 ∷ [])
+    (case_of 4 ⟨⟩ (bool true ∷ [])
+    (case_of 5 ⟨⟩ (bool false ∷ [])
+    (case_of 3 (block_node 1 3 0 (one (op 8 0 3 [])) ▸ ⟨⟩) (undef 1 ∷ []) ∅))) ▸ ⟨⟩
 
 -- A loop whose repeat value is undefined after a turn to Unreachable.
-abbrev pub mark-repeated : Formed
-mark-repeated =
+abbrev pub mark_repeated : Formed
+mark_repeated =
     formed (
     graph 2 (2 ∷ []) (
     plain [] (branch (to 1 (const 0 ∷ [])))
     ∷ at (2 ∷ []) (one (one (op 5 2 6 (input 1 0 ∷ [])))) 3
-    (select-branch number (input 1 0) (to 1 (instr 1 0 ∷ []) ∷ to 2 [] ∷ to 3 [] ∷ [])) (2 ∷ [])
+    (select_branch number (input 1 0) (to 1 (instr 1 0 ∷ []) ∷ to 2 [] ∷ to 3 [] ∷ [])) (2 ∷ [])
     ∷ plain [] (return [])
     ∷ plain (one (one (op 8 0 3 []))) unreachable
     ∷ []
     )
     ) (
-    loop-node 3 (const 0 ∷ []) 1 (2 ∷ []) 3 mark-repeated-body-1 (instr 1 0 ∷ []) (output 0) ▸ ⟨⟩
+    loop_node 3 (const 0 ∷ []) 1 (2 ∷ []) 3 mark_repeated_body_1 (instr 1 0 ∷ []) (output 0) ▸ ⟨⟩
     ) (some [])
 
-abbrev counts-body-1 : Nodes
-counts-body-1 =
-    block-node 0 1 0 (one (op 5 1 6 []))
-    ▸ select-node 1 bool-cond (instr 1 0) [] (empty-case 3 (empty-case 4 ∅)) ▸ ⟨⟩
+abbrev counts_body_1 : Nodes
+counts_body_1 =
+    block_node 0 1 0 (one (op 5 1 6 []))
+    ▸ select_node 1 bool_cond (instr 1 0) [] (empty_case 3 (empty_case 4 ∅)) ▸ ⟨⟩
 
 -- A loop that is entered once.
 abbrev pub counts : Formed
@@ -277,58 +277,58 @@ counts =
     formed (
     graph 2 [] (
     plain [] (branch (to 1 []))
-    ∷ at [] (one (one (op 5 1 6 []))) 3 (select-branch bool-cond (instr 1 0) (to 1 [] ∷ to 2 [] ∷ [])) (2 ∷ [])
+    ∷ at [] (one (one (op 5 1 6 []))) 3 (select_branch bool_cond (instr 1 0) (to 1 [] ∷ to 2 [] ∷ [])) (2 ∷ [])
     ∷ plain [] (return [])
     ∷ []
     )
     ) (
-    loop-node 2 [] 1 [] 3 counts-body-1 [] (instr 1 0) ▸ ⟨⟩
+    loop_node 2 [] 1 [] 3 counts_body_1 [] (instr 1 0) ▸ ⟨⟩
     ) (some [])
 
-abbrev entered-twice-body-2 : Nodes
-entered-twice-body-2 =
-    block-node 0 2 0 (one (op 0 1 1 (body-input 2 0 ∷ [])))
-    ▸ select-node 2 bool-cond (instr 2 0) [] (empty-case 7 (empty-case 8 ∅)) ▸ ⟨⟩
+abbrev entered_twice_body_2 : Nodes
+entered_twice_body_2 =
+    block_node 0 2 0 (one (op 0 1 1 (body_input 2 0 ∷ [])))
+    ▸ select_node 2 bool_cond (instr 2 0) [] (empty_case 7 (empty_case 8 ∅)) ▸ ⟨⟩
 
-abbrev entered-twice-body-1 : Nodes
-entered-twice-body-1 =
-    loop-node 3 (const 0 ∷ []) 2 (1 ∷ []) 3 entered-twice-body-2 (instr 2 0 ∷ []) (instr 2 0)
-    ▸ select-node 1 bool-cond (body-input 1 0) [] (empty-case 5 (empty-case 6 ∅)) ▸ ⟨⟩
+abbrev entered_twice_body_1 : Nodes
+entered_twice_body_1 =
+    loop_node 3 (const 0 ∷ []) 2 (1 ∷ []) 3 entered_twice_body_2 (instr 2 0 ∷ []) (instr 2 0)
+    ▸ select_node 1 bool_cond (body_input 1 0) [] (empty_case 5 (empty_case 6 ∅)) ▸ ⟨⟩
 
 -- A loop in a loop of two turns: each time it is entered its turns are counted anew.
-abbrev pub entered-twice : Formed
-entered-twice =
+abbrev pub entered_twice : Formed
+entered_twice =
     formed (
     graph 1 (1 ∷ []) (
     plain [] (branch (to 1 (bool true ∷ [])))
     ∷ at (1 ∷ []) [] 2 (branch (to 2 (input 1 0 ∷ const 0 ∷ []))) (4 ∷ [])
     ∷ at (1 ∷ 1 ∷ []) (one (one (op 0 1 1 (input 2 1 ∷ [])))) 3
-    (select-branch bool-cond (instr 2 0) (to 2 (input 2 0 ∷ instr 2 0 ∷ []) ∷ to 3 (input 2 0 ∷ []) ∷ [])) (3 ∷ [])
-    ∷ at (1 ∷ []) [] 1 (select-branch bool-cond (input 3 0) (to 1 (bool false ∷ []) ∷ to 4 [] ∷ [])) []
+    (select_branch bool_cond (instr 2 0) (to 2 (input 2 0 ∷ instr 2 0 ∷ []) ∷ to 3 (input 2 0 ∷ []) ∷ [])) (3 ∷ [])
+    ∷ at (1 ∷ []) [] 1 (select_branch bool_cond (input 3 0) (to 1 (bool false ∷ []) ∷ to 4 [] ∷ [])) []
     ∷ plain [] (return [])
     ∷ []
     )
     ) (
-    loop-node 4 (bool true ∷ []) 1 (1 ∷ []) 2 entered-twice-body-1 (bool false ∷ []) (body-input 1 0) ▸ ⟨⟩
+    loop_node 4 (bool true ∷ []) 1 (1 ∷ []) 2 entered_twice_body_1 (bool false ∷ []) (body_input 1 0) ▸ ⟨⟩
     ) (some [])
 
-abbrev until-exit-body-1 : Nodes
-until-exit-body-1 =
-    block-node 0 1 0 (one (op 8 1 3 []))
-    ▸ select-node 2 bool-cond (instr 1 0) [] (empty-case 3 (case-of 2 (exit-node 1 9 (instr 1 0 ∷ bool true ∷ []) ▸ ⟨⟩) [] ∅)) ▸ ⟨⟩
+abbrev until_exit_body_1 : Nodes
+until_exit_body_1 =
+    block_node 0 1 0 (one (op 8 1 3 []))
+    ▸ select_node 2 bool_cond (instr 1 0) [] (empty_case 3 (case_of 2 (exit_node 1 9 (instr 1 0 ∷ bool true ∷ []) ▸ ⟨⟩) [] ∅)) ▸ ⟨⟩
 
 -- A closed form with a loop of limit 3 that only an exit leaves.
-abbrev pub until-exit : Formed
-until-exit =
+abbrev pub until_exit : Formed
+until_exit =
     formed (
     graph 2 [] (
     plain [] (branch (to 1 []))
-    ∷ at [] (one (one (op 8 1 3 []))) 3 (select-branch bool-cond (instr 1 0) (to 1 [] ∷ to 2 (instr 1 0 ∷ []) ∷ [])) []
-    ∷ at (1 ∷ []) [] 1 (exit-invocation 9 (input 2 0 ∷ bool true ∷ [])) []
+    ∷ at [] (one (one (op 8 1 3 []))) 3 (select_branch bool_cond (instr 1 0) (to 1 [] ∷ to 2 (instr 1 0 ∷ []) ∷ [])) []
+    ∷ at (1 ∷ []) [] 1 (exit_invocation 9 (input 2 0 ∷ bool true ∷ [])) []
     ∷ []
     )
     ) (
-    loop-node 3 [] 1 [] 3 until-exit-body-1 [] (bool true) ▸ ⟨⟩
+    loop_node 3 [] 1 [] 3 until_exit_body_1 [] (bool true) ▸ ⟨⟩
     ) none
 
 -- A select with two outputs, which its cases work out.
@@ -336,40 +336,40 @@ abbrev pub merges : Formed
 merges =
     formed (
     graph 2 (2 ∷ []) (
-    at (1 ∷ []) [] 1 (select-branch bool-cond (input 0 0) (to 1 [] ∷ to 2 [] ∷ [])) []
+    at (1 ∷ []) [] 1 (select_branch bool_cond (input 0 0) (to 1 [] ∷ to 2 [] ∷ [])) []
     ∷ plain (one (one (op 7 2 3 (const 0 ∷ [])))) (branch (to 3 (instr 1 0 ∷ instr 1 0 ∷ [])))
     ∷ plain (one (one (op 8 2 4 []))) (branch (to 3 (const 0 ∷ instr 2 0 ∷ [])))
     ∷ at (2 ∷ 2 ∷ []) [] 1 (return (input 3 1 ∷ input 3 0 ∷ [])) []
     ∷ []
     )
     ) (
-    select-node 2 bool-cond (input 0 0) (output-of 0 2 ∷ output-of 1 2 ∷ [])
-    (case-of 1 (block-node 0 1 0 (one (op 7 2 3 (const 0 ∷ []))) ▸ ⟨⟩) (instr 1 0 ∷ instr 1 0 ∷ [])
-    (case-of 2 (block-node 1 2 0 (one (op 8 2 4 [])) ▸ ⟨⟩) (const 0 ∷ instr 2 0 ∷ []) ∅)) ▸ ⟨⟩
+    select_node 2 bool_cond (input 0 0) (output_of 0 2 ∷ output_of 1 2 ∷ [])
+    (case_of 1 (block_node 0 1 0 (one (op 7 2 3 (const 0 ∷ []))) ▸ ⟨⟩) (instr 1 0 ∷ instr 1 0 ∷ [])
+    (case_of 2 (block_node 1 2 0 (one (op 8 2 4 [])) ▸ ⟨⟩) (const 0 ∷ instr 2 0 ∷ []) ∅)) ▸ ⟨⟩
     ) (some (output 1 ∷ output 0 ∷ []))
 
-abbrev two-loops-body-1 : Nodes
-two-loops-body-1 =
-    block-node 0 1 0 (one (op 5 1 6 []))
-    ▸ select-node 3 bool-cond (instr 1 0) [] (empty-case 6 (empty-case 7 ∅)) ▸ ⟨⟩
+abbrev two_loops_body_1 : Nodes
+two_loops_body_1 =
+    block_node 0 1 0 (one (op 5 1 6 []))
+    ▸ select_node 3 bool_cond (instr 1 0) [] (empty_case 6 (empty_case 7 ∅)) ▸ ⟨⟩
 
-abbrev two-loops-body-2 : Nodes
-two-loops-body-2 =
-    block-node 1 2 0 (one (op 6 1 4 []))
-    ▸ select-node 2 bool-cond (instr 2 0) [] (empty-case 4 (empty-case 5 ∅)) ▸ ⟨⟩
+abbrev two_loops_body_2 : Nodes
+two_loops_body_2 =
+    block_node 1 2 0 (one (op 6 1 4 []))
+    ▸ select_node 2 bool_cond (instr 2 0) [] (empty_case 4 (empty_case 5 ∅)) ▸ ⟨⟩
 
 -- A loop of limit 1, and behind it one of limit 5.
-abbrev pub two-loops : Formed
-two-loops =
+abbrev pub two_loops : Formed
+two_loops =
     formed (
     graph 2 [] (
     plain [] (branch (to 1 []))
-    ∷ at [] (one (one (op 5 1 6 []))) 1 (select-branch bool-cond (instr 1 0) (to 1 [] ∷ to 2 [] ∷ [])) (2 ∷ [])
-    ∷ at [] (one (one (op 6 1 4 []))) 5 (select-branch bool-cond (instr 2 0) (to 2 [] ∷ to 3 [] ∷ [])) (3 ∷ [])
+    ∷ at [] (one (one (op 5 1 6 []))) 1 (select_branch bool_cond (instr 1 0) (to 1 [] ∷ to 2 [] ∷ [])) (2 ∷ [])
+    ∷ at [] (one (one (op 6 1 4 []))) 5 (select_branch bool_cond (instr 2 0) (to 2 [] ∷ to 3 [] ∷ [])) (3 ∷ [])
     ∷ plain [] (return [])
     ∷ []
     )
     ) (
-    loop-node 4 [] 1 [] 1 two-loops-body-1 [] (instr 1 0)
-    ▸ loop-node 5 [] 2 [] 5 two-loops-body-2 [] (instr 2 0) ▸ ⟨⟩
+    loop_node 4 [] 1 [] 1 two_loops_body_1 [] (instr 1 0)
+    ▸ loop_node 5 [] 2 [] 5 two_loops_body_2 [] (instr 2 0) ▸ ⟨⟩
     ) (some [])

@@ -9,9 +9,9 @@ use Rattle.meaning.specs.Lists.{pick}
 pub clash : ◌≡◌ {A = ℕ} 0 1 → ⊥
 clash h = omega arith
 
-pub or-either : (a b : Bool) → (a || b) ≡ true → (a ≡ true) ⊎ (b ≡ true)
-or-either true b h = inl refl
-or-either false b h = inr h
+pub or_either : (a b : Bool) → (a || b) ≡ true → (a ≡ true) ⊎ (b ≡ true)
+or_either true b h = inl refl
+or_either false b h = inr h
 
 pub or_left : (a b : Bool) → (a || b) ≡ false → a ≡ false
 or_left true b h = h
@@ -21,34 +21,34 @@ pub or_right : (a b : Bool) → (a || b) ≡ false → b ≡ false
 or_right true b h = let z : true ≡ false = h in cc
 or_right false b h = h
 
-pub or-assoc-comm : (a b c : Bool) → ((a || b) || c) ≡ (a || (c || b))
-or-assoc-comm a b c = or_assoc a b c ∙ ap (λ z. a || z) (or_comm b c)
+pub or_assoc_comm : (a b c : Bool) → ((a || b) || c) ≡ (a || (c || b))
+or_assoc_comm a b c = or_assoc a b c ∙ ap (λ z. a || z) (or_comm b c)
 
-pub or-left-comm : (a b c : Bool) → (a || (b || c)) ≡ (b || (a || c))
-or-left-comm true true c = refl
-or-left-comm true false c = refl
-or-left-comm false b c = refl
+pub or_left_comm : (a b c : Bool) → (a || (b || c)) ≡ (b || (a || c))
+or_left_comm true true c = refl
+or_left_comm true false c = refl
+or_left_comm false b c = refl
 
-pub or-mixed : (a b c d e : Bool) → (((a || b) || c) || (d || e)) ≡ (((b || a) || d) || (c || e))
-or-mixed true true c d e = refl
-or-mixed true false c d e = refl
-or-mixed false true c d e = refl
-or-mixed false false true true e = refl
-or-mixed false false true false e = refl
-or-mixed false false false d e = refl
+pub or_mixed : (a b c d e : Bool) → (((a || b) || c) || (d || e)) ≡ (((b || a) || d) || (c || e))
+or_mixed true true c d e = refl
+or_mixed true false c d e = refl
+or_mixed false true c d e = refl
+or_mixed false false true true e = refl
+or_mixed false false true false e = refl
+or_mixed false false false d e = refl
 
-pub false-if : (b : Bool) → (b ≡ true → ⊥) → b ≡ false
-false-if true h = absurd (h refl)
-false-if false h = refl
+pub false_if : (b : Bool) → (b ≡ true → ⊥) → b ≡ false
+false_if true h = absurd (h refl)
+false_if false h = refl
 
-pub eqb-self : (n : ℕ) → eqb n n ≡ true
-eqb-self n = eq-eqb n n refl
+pub eqb_self : (n : ℕ) → eqb n n ≡ true
+eqb_self n = eq-eqb n n refl
 
-pub eqb-less : (a b : ℕ) → a < b → eqb a b ≡ false
-eqb-less a b lt = ne_eqb a b (λ p. omega arith)
+pub eqb_less : (a b : ℕ) → a < b → eqb a b ≡ false
+eqb_less a b lt = ne_eqb a b (λ p. omega arith)
 
-pub eqb-sym : (a b : ℕ) → eqb a b ≡ eqb b a
-eqb-sym a b = go (eqb a b) (eqb b a) refl refl
+pub eqb_sym : (a b : ℕ) → eqb a b ≡ eqb b a
+eqb_sym a b = go (eqb a b) (eqb b a) refl refl
   where
     go : (p q : Bool) → eqb a b ≡ p → eqb b a ≡ q → p ≡ q
     go true true e e' = refl
@@ -56,8 +56,8 @@ eqb-sym a b = go (eqb a b) (eqb b a) refl refl
     go true false e e' = absurd (eqb-false b a e' (sym (eqb-true a b e)))
     go false true e e' = absurd (eqb-false a b e (sym (eqb-true b a e')))
 
-pub at-or-else : (P : Type 0) (q r : ℕ) → (q ≡ r → P) → (eqb q r ≡ false → P) → P
-at-or-else P q r p e = go (eqb q r) refl
+pub at_or_else : (P : Type 0) (q r : ℕ) → (q ≡ r → P) → (eqb q r ≡ false → P) → P
+at_or_else P q r p e = go (eqb q r) refl
   where
     go : (o : Bool) → eqb q r ≡ o → P
     go true x = p (eqb-true q r x)
@@ -70,22 +70,22 @@ and_both false b h = absurd (clash (cc))
 pub both_true : {a b : Bool} → a ≡ true → b ≡ true → (a && b) ≡ true
 both_true {a} {b} p q = ap (λ x. x && b) p ∙ q
 
-pub first-false : {a : Bool} (b : Bool) → a ≡ false → (a && b) ≡ false
-first-false b p = ap (λ x. x && b) p
+pub first_false : {a : Bool} (b : Bool) → a ≡ false → (a && b) ≡ false
+first_false b p = ap (λ x. x && b) p
 
-pub second-false : {a b : Bool} → a ≡ true → b ≡ false → (a && b) ≡ false
-second-false {a} {b} p q = ap (λ x. x && b) p ∙ q
+pub second_false : {a b : Bool} → a ≡ true → b ≡ false → (a && b) ≡ false
+second_false {a} {b} p q = ap (λ x. x && b) p ∙ q
 
 pub neither : (a b : Bool) → (a || b) ≡ false → (a ≡ false) × (b ≡ false)
 neither true b h = absurd (clash (cc))
 neither false b h = (refl, h)
 
-pub picked-positive : (b : Bool) (n : ℕ) → 1 ≤ pick b n 0 → (b ≡ true) × (1 ≤ n)
-picked-positive true n h = (refl, h)
-picked-positive false n h = absurd (omega arith)
+pub picked_positive : (b : Bool) (n : ℕ) → 1 ≤ pick b n 0 → (b ≡ true) × (1 ≤ n)
+picked_positive true n h = (refl, h)
+picked_positive false n h = absurd (omega arith)
 
-pub in-or-out : (r n : ℕ) → (r < n) ⊎ (n ≤ r)
-in-or-out r n = go (ltb r n) refl
+pub in_or_out : (r n : ℕ) → (r < n) ⊎ (n ≤ r)
+in_or_out r n = go (ltb r n) refl
   where
     go : (b : Bool) → ltb r n ≡ b → (r < n) ⊎ (n ≤ r)
     go true p = inl (ltb→lt r n (rw p tt))
@@ -95,11 +95,11 @@ in-or-out r n = go (ltb r n) refl
 pub is_below : {k n m : ℕ} → k < n → n ≡ m → ltb k m ≡ true
 is_below {k} {n} {m} l h = lt-ltb k m (omega arith)
 
-pub not-below : {k n m : ℕ} → n ≤ k → n ≡ m → ltb k m ≡ false
-not-below {k} {n} {m} l h = le-ltb k m (omega arith)
+pub not_below : {k n m : ℕ} → n ≤ k → n ≡ m → ltb k m ≡ false
+not_below {k} {n} {m} l h = le-ltb k m (omega arith)
 
-pub is-equal : {n m k : ℕ} → n ≡ k → n ≡ m → eqb m k ≡ true
-is-equal {n} {m} {k} l h = eq-eqb m k (omega arith)
+pub is_equal : {n m k : ℕ} → n ≡ k → n ≡ m → eqb m k ≡ true
+is_equal {n} {m} {k} l h = eq-eqb m k (omega arith)
 
 pub not_equal : {n m k : ℕ} → (n ≡ k → ⊥) → n ≡ m → eqb m k ≡ false
 not_equal {n} {m} {k} l h = ne_eqb m k (λ e. l (h ∙ e))
@@ -111,6 +111,6 @@ picked a b h = sym (ap (λ t. pick t a b) h)
 pub passed_over : {A : Type 0} {t : Bool} (a b : A) → t ≡ false → b ≡ pick t a b
 passed_over a b h = sym (ap (λ t. pick t a b) h)
 
-pub pick-and : (a b : Bool) → pick a b false ≡ (a && b)
-pick-and true b = refl
-pick-and false b = refl
+pub pick_and : (a b : Bool) → pick a b false ≡ (a && b)
+pick_and true b = refl
+pick_and false b = refl

@@ -54,11 +54,11 @@ slice-aggregate-write-all-3 c = search rules
 write-all-requires-3 : tie.Need-write-all-requires-3
 write-all-requires-3 c κs = search rules
 
-returns-2 : tie.Need-returns-2
-returns-2 c = search rules
+returns_2 : tie.Need-returns-2
+returns_2 c = search rules
 
-returns-3 : tie.Need-returns-3
-returns-3 c = search rules
+returns_3 : tie.Need-returns-3
+returns_3 c = search rules
 
 pub main_spec : {M : Type 1} → statement M
 main_spec =
@@ -81,5 +81,5 @@ main_spec =
     write-all-requires-2
     slice-aggregate-write-all-3
     write-all-requires-3
-    returns-2
-    returns-3)
+    returns_2
+    returns_3)

@@ -1,5 +1,5 @@
 use native.Mathlib.Omega.{arith}
-use Rattle.nester.specs.laws.NestingStore.{stood-loaded, nest-accepted, nest-refused}
+use Rattle.nester.specs.laws.NestingStore.{stood_loaded, nest_accepted, nest_refused}
 use borrow.Author.Rules.{rules}
 use Rattle.nester.proofs.nest.Statement.{statement}
 use Rattle.nester.proofs.nest.Tie as tie
@@ -18,7 +18,7 @@ nest-record-requires c κs =
     let at-enum-told = c.before.before in
     let at-accept = at-enum-told.before.before in
     let at-tells-length-arg = at-accept.before.before.before in
-    stood-loaded at-accept.accept.ensures at-enum-told.enum_told.given.1
+    stood_loaded at-accept.accept.ensures at-enum-told.enum_told.given.1
     (let size = at-tells-length-arg.tells-length-arg2.given in omega arith)
 
 enum-known-number : tie.Need-enum-known-number
@@ -32,11 +32,11 @@ returns c =
     let at-nest-record = c.before.before in
     let at-enum-told = at-nest-record.before.before.before in
     let at-accept = at-enum-told.before.before in
-    nest-accepted at-accept.accept.ensures
+    nest_accepted at-accept.accept.ensures
     at-enum-told.enum_told.given.1 at-nest-record.nest-record.ensures
 
-returns-2 : tie.Need-returns-2
-returns-2 c = nest-refused c.before.before.before.accept.ensures _ c.before.number.given.1
+returns_2 : tie.Need-returns-2
+returns_2 c = nest_refused c.before.before.before.accept.ensures _ c.before.number.given.1
 
 pub nest-spec : {M : Type 1} → statement M
 nest-spec =
@@ -49,4 +49,4 @@ nest-spec =
     enum-known-number
     same_length
     returns
-    returns-2)
+    returns_2)

@@ -1,4 +1,4 @@
-use Rattle.nester.specs.laws.NestingRecord.{written-words, written-few}
+use Rattle.nester.specs.laws.NestingRecord.{written_words, written_few}
 use borrow.Author.Rules.{rules}
 use Rattle.nester.proofs.write_or_refuse.Statement.{statement}
 use Rattle.nester.proofs.write_or_refuse.Tie as tie
@@ -16,13 +16,13 @@ same_length : tie.Need-same-length
 same_length c = search rules
 
 returns : tie.Need-returns
-returns c = written-words _ _ _ c.before.before.before.before.before.write-sheet.ensures c.before.n.given.1
+returns c = written_words _ _ _ c.before.before.before.before.before.write-sheet.ensures c.before.n.given.1
 
 same-length-2 : tie.Need-same-length-2
 same-length-2 c = search rules
 
-returns-2 : tie.Need-returns-2
-returns-2 c = written-few _ _ _ c.before.before.before.before.write-sheet.ensures c.enum_told.given.1
+returns_2 : tie.Need-returns-2
+returns_2 c = written_few _ _ _ c.before.before.before.before.write-sheet.ensures c.enum_told.given.1
 
 pub write-or-refuse-spec : {M : Type 1} → statement M
 write-or-refuse-spec =
@@ -34,4 +34,4 @@ write-or-refuse-spec =
     same_length
     returns
     same-length-2
-    returns-2)
+    returns_2)

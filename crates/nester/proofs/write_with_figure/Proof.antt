@@ -1,4 +1,4 @@
-use Rattle.nester.specs.laws.NestingRecord.{too-dear, within-figure}
+use Rattle.nester.specs.laws.NestingRecord.{too_dear, within_figure}
 use borrow.Author.Rules.{rules}
 use Rattle.nester.proofs.write_with_figure.Statement.{statement}
 use Rattle.nester.proofs.write_with_figure.Tie as tie
@@ -13,7 +13,7 @@ figure-requires : tie.Need-figure-requires
 figure-requires c κs = search rules
 
 returns : tie.Need-returns
-returns c = too-dear _ _ c.before.before.before.entry.ensures c.before.before.children.ensures
+returns c = too_dear _ _ c.before.before.before.entry.ensures c.before.before.children.ensures
     c.before.figure.ensures _ c.if1.true
 
 cast-write-or-refuse : tie.Need-overflow-cast-write-or-refuse
@@ -25,14 +25,14 @@ write-or-refuse-requires c κs = search rules
 same_length : tie.Need-same-length
 same_length c = search rules
 
-returns-2 : tie.Need-returns-2
-returns-2 c =
+returns_2 : tie.Need-returns-2
+returns_2 c =
     let at-write-or-refuse = c.before.before in
     let at-if = at-write-or-refuse.before.before in
     let at-figure = at-if.before in
     let at-children = at-figure.before in
     let at_entry_lem = at-children.before in
-    within-figure _ _ at_entry_lem.entry.ensures
+    within_figure _ _ at_entry_lem.entry.ensures
     at-children.children.ensures at-figure.figure.ensures
     at-if.if1.false at-write-or-refuse.write-or-refuse.ensures
 
@@ -47,4 +47,4 @@ write-with-figure-spec =
     cast-write-or-refuse
     write-or-refuse-requires
     same_length
-    returns-2)
+    returns_2)

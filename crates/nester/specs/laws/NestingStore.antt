@@ -5,16 +5,16 @@ use Rattle.std.proofs.Common.{sym, ap, ◌∙◌, arith}
 use Rattle.meaning.specs.Graph.{Graph}
 use Rattle.meaning.specs.facts.Tests.{clash}
 use Rattle.format.specs.Store as format
-use Rattle.format.specs.Store.{accepted, refused, if-accepted}
+use Rattle.format.specs.Store.{accepted, refused, if_accepted}
 use Rattle.format.specs.Accept.{accept}
 use Rattle.format.specs.Valid.{Valid}
-use Rattle.format.specs.laws.AcceptValid.{accept-valid}
+use Rattle.format.specs.laws.AcceptValid.{accept_valid}
 use Rattle.record.specs.Stands.{Stands, OfRecord}
 use Rattle.record.specs.Outcome.{forget}
-use Rattle.nesting.specs.Nesting.{Nested, structurize-func}
-use Rattle.nesting.specs.Sheet.{Sheet, answer, answer-words, sheet-for, sheet-of, figure-fits, words-fit, sheet-words}
+use Rattle.nesting.specs.Nesting.{Nested, structurize_func}
+use Rattle.nesting.specs.Sheet.{Sheet, answer, answer_words, sheet_for, sheet_of, figure_fits, words_fit, sheet_words}
 use Rattle.follows.specs.sound.Sound.{sound}
-use Rattle.accept.specs.Accepts.{Accepts, accept-answered}
+use Rattle.accept.specs.Accepts.{Accepts, accept_answered}
 use Rattle.accept.specs.declared.Accepted.{Accepted}
 use Rattle.accept.specs.declared.Accepted.TheVariants.{Record, Refused as Rejected}
 use Rattle.state_shown.specs.laws.FrontKept.{front_same}
@@ -23,48 +23,48 @@ use Rattle.cfg_claims.specs.Claims.{Stood}
 use Rattle.sheet.specs.Written.{lent}
 use Rattle.nester.specs.declared.SheetAnswer.{SheetAnswer}
 use Rattle.nester.specs.declared.SheetAnswer.TheVariants.{Refused}
-use Rattle.nester.specs.Answers.{record-words, words-if-figured, words-if-fit, NestsRecord}
+use Rattle.nester.specs.Answers.{record_words, words_if_figured, words_if_fit, NestsRecord}
 use Rattle.nester.specs.Nests.{Nests}
-use Rattle.nester.specs.laws.NestingRecord.{ends-refused}
+use Rattle.nester.specs.laws.NestingRecord.{ends_refused}
 
 module _ (store : List ℕ) (lent : ℕ) where
-  pub words-refused : {n x : ℕ} → accept store ≡ refused n x → answer-words store lent ≡ refused n x
-  unfolding answer-words answer sheet-for
-  words-refused e = rw e
+  pub words_refused : {n x : ℕ} → accept store ≡ refused n x → answer_words store lent ≡ refused n x
+  unfolding answer_words answer sheet_for
+  words_refused e = rw e
 
-  pub words-accepted : {g : Graph} → accept store ≡ accepted g → answer-words store lent ≡ record-words g lent
-  unfolding answer-words answer sheet-for record-words
-  words-accepted {g} e = rw e (by (structurize-func g))
+  pub words_accepted : {g : Graph} → accept store ≡ accepted g → answer_words store lent ≡ record_words g lent
+  unfolding answer_words answer sheet_for record_words
+  words_accepted {g} e = rw e (by (structurize_func g))
     where
       -- First the figure, then the lent words.
-      by : (b : format.Answer Nested) → if-accepted (if-accepted (if-accepted b (λ x. figure-fits (sheet-of g x))) (words-fit lent))
-          (λ s. accepted (sheet-words s)) ≡ if-accepted b λ x. words-if-figured lent (sheet-of g x)
+      by : (b : format.Answer Nested) → if_accepted (if_accepted (if_accepted b (λ x. figure_fits (sheet_of g x))) (words_fit lent))
+          (λ s. accepted (sheet_words s)) ≡ if_accepted b λ x. words_if_figured lent (sheet_of g x)
       by (refused n x) = refl
-      by (accepted x) = then-words (figure-fits (sheet-of g x))
+      by (accepted x) = then_words (figure_fits (sheet_of g x))
         where
-          then-words : (b : format.Answer Sheet) → if-accepted (if-accepted b (words-fit lent)) (λ s. accepted (sheet-words s))
-              ≡ if-accepted b (words-if-fit lent)
-          then-words (refused n x) = refl
-          then-words (accepted s) = refl
+          then_words : (b : format.Answer Sheet) → if_accepted (if_accepted b (words_fit lent)) (λ s. accepted (sheet_words s))
+              ≡ if_accepted b (words_if_fit lent)
+          then_words (refused n x) = refl
+          then_words (accepted s) = refl
 
 module _ {store w loaded : List ℕ} {v : Accepted} (accepts : Accepts store w loaded v) where
   -- A store or a record that is refused.
-  pub nest-refused : (out : List ℕ) {n x : ℕ} → v ≡ Rejected n x → Nests store w loaded out out (Refused n x)
-  nest-refused out {n} {x} e =
+  pub nest_refused : (out : List ℕ) {n x : ℕ} → v ≡ Rejected n x → Nests store w loaded out out (Refused n x)
+  nest_refused out {n} {x} e =
       record {
-        ends = ends-refused
-            (words-refused store (lent out) (was-refused (accept store) (sym accepts.answer ∙ ap accept-answered e))) refl;
+        ends = ends_refused
+            (words_refused store (lent out) (was_refused (accept store) (sym accepts.answer ∙ ap accept_answered e))) refl;
         loaded = loaded;
         verdict = v;
         accepts = accepts;
-        as-loaded = λ m y d. refl;
+        as_loaded = λ m y d. refl;
         kept = front_same loaded;
         sound = sound store (lent out);
       }
     where
-      was-refused : (b : format.Answer Graph) → forget b ≡ refused n x → b ≡ refused n x
-      was-refused (accepted g) z = absurd (clash (cc))
-      was-refused (refused m y) z = let p : m ≡ n = cc in let q : y ≡ x = cc in rw (p, q)
+      was_refused : (b : format.Answer Graph) → forget b ≡ refused n x → b ≡ refused n x
+      was_refused (accepted g) z = absurd (clash (cc))
+      was_refused (refused m y) z = let p : m ≡ n = cc in let q : y ≡ x = cc in rw (p, q)
 
   pub record Accepting : Type 0 where
     pub graph : Graph
@@ -73,30 +73,30 @@ module _ {store w loaded : List ℕ} {v : Accepted} (accepts : Accepts store w l
     pub valid : Valid graph
 
   pub accepting : v ≡ Record → Accepting
-  accepting e = go (accept store) refl (sym accepts.answer ∙ ap accept-answered e)
+  accepting e = go (accept store) refl (sym accepts.answer ∙ ap accept_answered e)
     where
       go : (b : format.Answer Graph) → accept store ≡ b → forget b ≡ accepted tt → Accepting
-      go (accepted g) z y = record { graph = g; is = z; stands = accepts.stands g z; valid = accept-valid store g z }
+      go (accepted g) z y = record { graph = g; is = z; stands = accepts.stands g z; valid = accept_valid store g z }
       go (refused n x) z y = absurd (clash (cc))
 
-  pub stood-loaded : v ≡ Record → used ≤ length w → Stood loaded
-  stood-loaded e room =
+  pub stood_loaded : v ≡ Record → used ≤ length w → Stood loaded
+  stood_loaded e room =
       let x = accepting e in
       let size = accepts.size in
       record { graph = x.graph; stands = x.stands; room = omega arith }
 
-  pub nest-accepted : {w' out out' : List ℕ} {a : SheetAnswer} → v ≡ Record
+  pub nest_accepted : {w' out out' : List ℕ} {a : SheetAnswer} → v ≡ Record
       → OfRecord loaded (λ g. Valid g → NestsRecord g loaded w' out out' a) → Nests store w w' out out' a
-  nest-accepted {out = out} e p =
+  nest_accepted {out = out} e p =
       let x = accepting e in
       let y = p x.graph x.stands x.valid in
       let is = x.is in
       record {
-        ends = rw (words-accepted store (lent out) is) y.ends;
+        ends = rw (words_accepted store (lent out) is) y.ends;
         loaded = loaded;
         verdict = v;
         accepts = accepts;
-        as-loaded = λ m z d. absurd (clash (cc));
+        as_loaded = λ m z d. absurd (clash (cc));
         kept = y.front;
         sound = sound store (lent out);
       }

@@ -1,7 +1,7 @@
 -- The graphs of document 01's proved cases, and of a few small ones beside them that each turn on one step of nesting.
 use Rattle.std.specs.Prelude.{true, List, [], ◌∷◌, ℕ, zero, suc}
-use Rattle.meaning.specs.Graph.{Value, const, input, instr, bool, Instr, bool-cond, number, Edge, ControlInst, return, exit-invocation}
-use Rattle.meaning.specs.Graph.{branch, select-branch, Region, Graph}
+use Rattle.meaning.specs.Graph.{Value, const, input, instr, bool, Instr, bool_cond, number, Edge, ControlInst, return, exit_invocation}
+use Rattle.meaning.specs.Graph.{branch, select_branch, Region, Graph}
 
 -- opcode, type, cost; no reads
 abbrev pub op : ℕ → ℕ → ℕ → Instr
@@ -11,8 +11,8 @@ abbrev pub to : ℕ → List Value → Edge
 to r vs = record { target = r; inputs = vs }
 
 -- A region without inputs or exits, of turn limit 1.
-abbrev pub plain-region : List (List Instr) → ControlInst → Region
-plain-region bs c = record { inputs = []; blocks = bs; limit = 1; terminator = c; exits = [] }
+abbrev pub plain_region : List (List Instr) → ControlInst → Region
+plain_region bs c = record { inputs = []; blocks = bs; limit = 1; terminator = c; exits = [] }
 
 -- A header: inputs, its one instruction, turn limit, terminator, exit list.
 abbrev pub header : List ℕ → Instr → ℕ → ControlInst → List ℕ → Region
@@ -23,54 +23,54 @@ one_block i = (i ∷ []) ∷ []
 
 -- test cost, constants' types, regions; the entry is region 0
 abbrev pub graph : ℕ → List ℕ → List Region → Graph
-graph c ts rs = record { entry = 0; test-cost = c; constants = ts; regions = rs }
+graph c ts rs = record { entry = 0; test_cost = c; constants = ts; regions = rs }
 
 -- ---- document 01's cases
 abbrev pub A : Graph
 A = graph 2 (2 ∷ 2 ∷ []) (
-    plain-region (one_block (op 7 1 5)) (select-branch bool-cond (instr 0 0) (to 1 [] ∷ to 2 [] ∷ []))
-    ∷ plain-region (one_block (op 8 0 3)) (branch (to 3 (const 0 ∷ [])))
-    ∷ plain-region (one_block (op 9 0 4)) (branch (to 3 (const 1 ∷ [])))
+    plain_region (one_block (op 7 1 5)) (select_branch bool_cond (instr 0 0) (to 1 [] ∷ to 2 [] ∷ []))
+    ∷ plain_region (one_block (op 8 0 3)) (branch (to 3 (const 0 ∷ [])))
+    ∷ plain_region (one_block (op 9 0 4)) (branch (to 3 (const 1 ∷ [])))
     ∷ record { inputs = (2 ∷ []); blocks = []; limit = 1; terminator = return (input 3 0 ∷ []); exits = [] }
     ∷ []
     )
 
 abbrev pub B : Graph
 B = graph 2 (2 ∷ []) (
-    plain-region [] (branch (to 1 (const 0 ∷ bool true ∷ [])))
-    ∷ header (2 ∷ 1 ∷ []) (op 5 1 6) 10 (select-branch bool-cond (instr 1 0) (to 1 (input 1 0 ∷ instr 1 0 ∷ []) ∷ to 2 [] ∷ [])) (2 ∷ [])
-    ∷ plain-region [] (return [])
+    plain_region [] (branch (to 1 (const 0 ∷ bool true ∷ [])))
+    ∷ header (2 ∷ 1 ∷ []) (op 5 1 6) 10 (select_branch bool_cond (instr 1 0) (to 1 (input 1 0 ∷ instr 1 0 ∷ []) ∷ to 2 [] ∷ [])) (2 ∷ [])
+    ∷ plain_region [] (return [])
     ∷ []
     )
 
 -- One region with a terminator.
-abbrev pub one-region : ControlInst → Graph
-one-region c = graph 0 [] (plain-region [] c ∷ [])
+abbrev pub one_region : ControlInst → Graph
+one_region c = graph 0 [] (plain_region [] c ∷ [])
 
-abbrev pub both-the-same : Graph
-both-the-same = graph 0 [] (
-    plain-region [] (select-branch bool-cond (bool true) (to 1 [] ∷ to 1 [] ∷ []))
-    ∷ plain-region [] (return [])
+abbrev pub both_the_same : Graph
+both_the_same = graph 0 [] (
+    plain_region [] (select_branch bool_cond (bool true) (to 1 [] ∷ to 1 [] ∷ []))
+    ∷ plain_region [] (return [])
     ∷ []
     )
 
 -- n Return regions, and the edges to them from a number on
 abbrev pub returns : ℕ → List Region
 returns zero = []
-returns (suc n) = plain-region [] (return []) ∷ returns n
+returns (suc n) = plain_region [] (return []) ∷ returns n
 
-abbrev pub edges-in-turn : ℕ → ℕ → List Edge
-edges-in-turn k zero = []
-edges-in-turn k (suc n) = to k [] ∷ edges-in-turn (suc k) n
+abbrev pub edges_in_turn : ℕ → ℕ → List Edge
+edges_in_turn k zero = []
+edges_in_turn k (suc n) = to k [] ∷ edges_in_turn (suc k) n
 
 -- A number test with n targets.
-abbrev pub many-targets : ℕ → Graph
-many-targets n = graph 0 (2 ∷ []) (plain-region [] (select-branch number (const 0) (edges-in-turn 1 n)) ∷ returns n)
+abbrev pub many_targets : ℕ → Graph
+many_targets n = graph 0 (2 ∷ []) (plain_region [] (select_branch number (const 0) (edges_in_turn 1 n)) ∷ returns n)
 
 -- n regions that branch from one to the next, the last numbered k, and a Return region
 abbrev pub chain : ℕ → ℕ → List Region
-chain k zero = plain-region [] (return []) ∷ []
-chain k (suc n) = plain-region [] (branch (to (suc k) [])) ∷ chain (suc k) n
+chain k zero = plain_region [] (return []) ∷ []
+chain k (suc n) = plain_region [] (branch (to (suc k) [])) ∷ chain (suc k) n
 
 abbrev pub regions : ℕ → Graph
 regions zero = graph 0 [] []
@@ -81,36 +81,36 @@ regions (suc n) = graph 0 [] (chain 0 n)
 abbrev pub no_loop : Graph
 no_loop = graph 0 [] (
     record { inputs = []; blocks = []; limit = 1; terminator = branch (to 1 []); exits = (1 ∷ []) }
-    ∷ plain-region [] (return [])
+    ∷ plain_region [] (return [])
     ∷ []
     )
 
 -- The one convergent case goes after the select.
-abbrev pub one-goes-on : Graph
-one-goes-on = graph 1 [] (
-    plain-region [] (select-branch bool-cond (bool true) (to 1 [] ∷ to 2 [] ∷ []))
-    ∷ plain-region (one_block (op 7 0 3)) (return [])
-    ∷ plain-region [] (exit-invocation 9 [])
+abbrev pub one_goes_on : Graph
+one_goes_on = graph 1 [] (
+    plain_region [] (select_branch bool_cond (bool true) (to 1 [] ∷ to 2 [] ∷ []))
+    ∷ plain_region (one_block (op 7 0 3)) (return [])
+    ∷ plain_region [] (exit_invocation 9 [])
     ∷ []
     )
 
 -- The outer loop repeats where the inner one does not: [false, true] is an output of the select.
-abbrev pub loop-in-loop : Graph
-loop-in-loop = graph 2 [] (
-    plain-region [] (branch (to 1 []))
+abbrev pub loop_in_loop : Graph
+loop_in_loop = graph 2 [] (
+    plain_region [] (branch (to 1 []))
     ∷ record { inputs = []; blocks = []; limit = 3; terminator = branch (to 2 []); exits = [] }
-    ∷ header [] (op 5 1 4) 10 (select-branch bool-cond (instr 2 0) (to 1 [] ∷ to 2 [] ∷ [])) (1 ∷ [])
+    ∷ header [] (op 5 1 4) 10 (select_branch bool_cond (instr 2 0) (to 1 [] ∷ to 2 [] ∷ [])) (1 ∷ [])
     ∷ []
     )
 
 -- Three deferred edges, the back edge first: the last one takes its place.
-abbrev pub two-exits : Graph
-two-exits = graph 2 [] (
-    plain-region [] (branch (to 1 []))
-    ∷ header [] (op 7 1 5) 2 (select-branch bool-cond (instr 1 0) (to 2 [] ∷ to 3 [] ∷ [])) (3 ∷ 4 ∷ [])
-    ∷ plain-region (one_block (op 8 1 3)) (select-branch bool-cond (instr 2 0) (to 1 [] ∷ to 4 [] ∷ []))
-    ∷ plain-region [] (return [])
-    ∷ plain-region [] (branch (to 3 []))
+abbrev pub two_exits : Graph
+two_exits = graph 2 [] (
+    plain_region [] (branch (to 1 []))
+    ∷ header [] (op 7 1 5) 2 (select_branch bool_cond (instr 1 0) (to 2 [] ∷ to 3 [] ∷ [])) (3 ∷ 4 ∷ [])
+    ∷ plain_region (one_block (op 8 1 3)) (select_branch bool_cond (instr 2 0) (to 1 [] ∷ to 4 [] ∷ []))
+    ∷ plain_region [] (return [])
+    ∷ plain_region [] (branch (to 3 []))
     ∷ []
     )
 
@@ -120,25 +120,25 @@ renumbered = graph 2 (1 ∷ []) (
     record { inputs = (1 ∷ []); blocks = []; limit = 1; terminator = branch (to 1 (input 0 0 ∷ const 0 ∷ [])); exits = [] }
     ∷ record { inputs = (1 ∷ 1 ∷ []); blocks = []; limit = 5; terminator = branch (to 2 (input 1 0 ∷ const 0 ∷ [])); exits = [] }
     ∷ header (1 ∷ 1 ∷ []) (record { opcode = 7; type = 1; cost = 3; reads = (input 2 0 ∷ []) }) 4
-    (select-branch bool-cond (instr 2 0) (to 2 (input 2 0 ∷ instr 2 0 ∷ []) ∷ to 1 (input 2 0 ∷ input 2 1 ∷ []) ∷ [])) []
+    (select_branch bool_cond (instr 2 0) (to 2 (input 2 0 ∷ instr 2 0 ∷ []) ∷ to 1 (input 2 0 ∷ input 2 1 ∷ []) ∷ [])) []
     ∷ []
     )
 
 -- Two regions that lead to each other, both entered from outside.
 abbrev pub crossing : Graph
 crossing = graph 0 [] (
-    plain-region (one_block (op 7 1 1)) (select-branch bool-cond (instr 0 0) (to 1 [] ∷ to 2 [] ∷ []))
-    ∷ plain-region (one_block (op 8 1 2)) (select-branch bool-cond (instr 1 0) (to 2 [] ∷ to 3 [] ∷ []))
-    ∷ plain-region [] (branch (to 1 []))
-    ∷ plain-region [] (return [])
+    plain_region (one_block (op 7 1 1)) (select_branch bool_cond (instr 0 0) (to 1 [] ∷ to 2 [] ∷ []))
+    ∷ plain_region (one_block (op 8 1 2)) (select_branch bool_cond (instr 1 0) (to 2 [] ∷ to 3 [] ∷ []))
+    ∷ plain_region [] (branch (to 1 []))
+    ∷ plain_region [] (return [])
     ∷ []
     )
 
 -- A loop of 65,535 turns, each of cost 131,070.
 abbrev pub dear : Graph
 dear = graph 65535 [] (
-    plain-region [] (branch (to 1 []))
-    ∷ header [] (op 7 1 65535) 65535 (select-branch bool-cond (instr 1 0) (to 1 [] ∷ to 2 [] ∷ [])) (2 ∷ [])
-    ∷ plain-region [] (return [])
+    plain_region [] (branch (to 1 []))
+    ∷ header [] (op 7 1 65535) 65535 (select_branch bool_cond (instr 1 0) (to 1 [] ∷ to 2 [] ∷ [])) (2 ∷ [])
+    ∷ plain_region [] (return [])
     ∷ []
     )

@@ -6,20 +6,20 @@ use Rattle.meaning.specs.Graph.{Code, undef, Graph}
 use Rattle.meaning.specs.Runs.{Node, block, select, loop, exit, Nodes, ⟨⟩, ◌▸◌, Cases, ∅, case}
 use Rattle.meaning.specs.Text.{Text, ascii, decimal}
 use Rattle.nesting.specs.Nesting.{Outcome, DeferredEdgeBundle, untouched, whole, closed, leftover, Piece, Nested}
-use Rattle.nesting.specs.Sheet.{figure, Field, label, number-as, a-number, joint, list, numbers, dotted, kind, kids, case-numbers}
+use Rattle.nesting.specs.Sheet.{figure, Field, label, number_as, a_number, joint, list, numbers, dotted, kind, kids, case_numbers}
 use Rattle.nesting.specs.Sheet.{ascending, Sheet}
-use Rattle.nesting.specs.ShownForm.{Item, Condition, t_cond, f-cond, u-cond, m-cond, Conditions, no_part, part, ShownSelect}
-use Rattle.nesting.specs.ShownForm.{ShownEdge, shown-value, block-items, shown-select, shown-edge}
-use Rattle.nesting.specs.SheetNumbers.{lead_block, lead-defer, lead-exit, lead-loop, lead-region, lead-select, letter-f, letter-m}
-use Rattle.nesting.specs.SheetNumbers.{letter-t, letter-u, return-word}
+use Rattle.nesting.specs.ShownForm.{Item, Condition, t_cond, f_cond, u_cond, m_cond, Conditions, no_part, part, ShownSelect}
+use Rattle.nesting.specs.ShownForm.{ShownEdge, shown_value, block_items, shown_select, shown_edge}
+use Rattle.nesting.specs.SheetNumbers.{lead_block, lead_defer, lead_exit, lead_loop, lead_region, lead_select, letter_f, letter_m}
+use Rattle.nesting.specs.SheetNumbers.{letter_t, letter_u, return_word}
 
 pub data Line : Type 0 where
-  region-line : ℕ → List ℕ → List ℕ → List Code → Line  -- region, inputs' types, child nodes, output values
-  block-line : ℕ → List Item → Line  -- node, items
+  region_line : ℕ → List ℕ → List ℕ → List Code → Line  -- region, inputs' types, child nodes, output values
+  block_line : ℕ → List Item → Line  -- node, items
   select_line : ShownSelect → List ℕ → Line  -- with its case regions
-  loop-line : ℕ → List Code → ℕ → Code → Line  -- node, first inputs, body region, repeat value
+  loop_line : ℕ → List Code → ℕ → Code → Line  -- node, first inputs, body region, repeat value
   exit_line : ℕ → ℕ → List Code → Line  -- node, opcode, values
-  defer-line : ShownEdge → Line
+  defer_line : ShownEdge → Line
 
 pub record TypedSheet : Type 0 where
   pub outcome : Outcome
@@ -30,8 +30,8 @@ pub record TypedSheet : Type 0 where
 
 -- ---- how a line is written
 -- By kind, 0 to 5.
-abbrev pub value-texts : ℕ → ℕ → List Text
-value-texts r k =
+abbrev pub value_texts : ℕ → ℕ → List Text
+value_texts r k =
     (ascii "c" ++ decimal k)
     ∷ (ascii "i" ++ (dotted r k).text)
     ∷ (ascii "d" ++ (dotted r k).text)
@@ -40,99 +40,99 @@ value-texts r k =
     ∷ (ascii "undef" ++ decimal k)
     ∷ []
 
-abbrev pub value-field : Code → Field
-value-field v =
-    record { words = v.kind ∷ v.region ∷ v.index ∷ []; text = get_or (value-texts v.region v.index) v.kind [] }
+abbrev pub value_field : Code → Field
+value_field v =
+    record { words = v.kind ∷ v.region ∷ v.index ∷ []; text = get_or (value_texts v.region v.index) v.kind [] }
 
-abbrev pub values-field : List Code → Field
-values-field vs = list (map value-field vs)
+abbrev pub values_field : List Code → Field
+values_field vs = list (map value_field vs)
 
-abbrev pub item-field : Item → Field
-item-field i = joint "/" (dotted i.region i.index ∷ a-number i.opcode ∷ a-number i.type ∷ values-field i.reads ∷ [])
+abbrev pub item_field : Item → Field
+item_field i = joint "/" (dotted i.region i.index ∷ a_number i.opcode ∷ a_number i.type ∷ values_field i.reads ∷ [])
 
-abbrev pub target-field : ℕ → Field
-target-field r = pick (eqb r return-word) (number-as r "return") (a-number r)
+abbrev pub target_field : ℕ → Field
+target_field r = pick (eqb r return_word) (number_as r "return") (a_number r)
 
 unfoldable mutual
-  pub condition-field : Condition → Field
-  condition-field t_cond = number-as letter-t "t"
-  condition-field f-cond = number-as letter-f "f"
-  condition-field u-cond = number-as letter-u "u"
-  condition-field (m-cond n cs) =
-      let parts = condition-fields cs in
-      record { words = letter-m ∷ n ∷ (list parts).words; text = ascii "m" ++ decimal n ++ ascii "[" ++ (joint "," parts).text ++ ascii "]" }
+  pub condition_field : Condition → Field
+  condition_field t_cond = number_as letter_t "t"
+  condition_field f_cond = number_as letter_f "f"
+  condition_field u_cond = number_as letter_u "u"
+  condition_field (m_cond n cs) =
+      let parts = condition_fields cs in
+      record { words = letter_m ∷ n ∷ (list parts).words; text = ascii "m" ++ decimal n ++ ascii "[" ++ (joint "," parts).text ++ ascii "]" }
 
-  pub condition-fields : Conditions → List Field
-  condition-fields no_part = []
-  condition-fields (part c cs) = condition-field c ∷ condition-fields cs
+  pub condition_fields : Conditions → List Field
+  condition_fields no_part = []
+  condition_fields (part c cs) = condition_field c ∷ condition_fields cs
 
 abbrev pub fields : Line → List Field
-fields (region-line r ts ks vs) =
-    number-as lead-region "region" ∷ a-number r ∷ label "in" ∷ numbers ts ∷ label "kids" ∷ numbers ks ∷ label "out" ∷ values-field vs ∷ []
-fields (block-line n is) = number-as lead_block "block" ∷ a-number n ∷ list (map item-field is) ∷ []
+fields (region_line r ts ks vs) =
+    number_as lead_region "region" ∷ a_number r ∷ label "in" ∷ numbers ts ∷ label "kids" ∷ numbers ks ∷ label "out" ∷ values_field vs ∷ []
+fields (block_line n is) = number_as lead_block "block" ∷ a_number n ∷ list (map item_field is) ∷ []
 fields (select_line x rs) =
-    number-as lead-select "select" ∷ a-number x.number ∷ kind x.kind ∷ value-field x.scrutinee
-    ∷ label "cases" ∷ numbers rs ∷ label "out" ∷ numbers x.output-types ∷ []
-fields (loop-line n vs r v) =
-    number-as lead-loop "loop" ∷ a-number n ∷ label "in" ∷ values-field vs ∷ label "body" ∷ a-number r ∷ label "repeat" ∷ value-field v ∷ []
-fields (exit_line n op vs) = number-as lead-exit "exit" ∷ a-number n ∷ a-number op ∷ label "in" ∷ values-field vs ∷ []
-fields (defer-line e) =
-    number-as lead-defer "defer" ∷ a-number e.region ∷ label "to" ∷ target-field e.target ∷ label "count" ∷ a-number e.count
-    ∷ label "in" ∷ values-field e.inputs ∷ label "if" ∷ condition-field e.condition ∷ []
+    number_as lead_select "select" ∷ a_number x.number ∷ kind x.kind ∷ value_field x.scrutinee
+    ∷ label "cases" ∷ numbers rs ∷ label "out" ∷ numbers x.output_types ∷ []
+fields (loop_line n vs r v) =
+    number_as lead_loop "loop" ∷ a_number n ∷ label "in" ∷ values_field vs ∷ label "body" ∷ a_number r ∷ label "repeat" ∷ value_field v ∷ []
+fields (exit_line n op vs) = number_as lead_exit "exit" ∷ a_number n ∷ a_number op ∷ label "in" ∷ values_field vs ∷ []
+fields (defer_line e) =
+    number_as lead_defer "defer" ∷ a_number e.region ∷ label "to" ∷ target_field e.target ∷ label "count" ∷ a_number e.count
+    ∷ label "in" ∷ values_field e.inputs ∷ label "if" ∷ condition_field e.condition ∷ []
 
 abbrev pub words_of : List Field → List ℕ
 words_of fs = concat (map (λ f. f.words) fs)
 
-abbrev pub lines-words : List Line → List ℕ
-lines-words ls = concat (map words_of (map fields ls))
+abbrev pub lines_words : List Line → List ℕ
+lines_words ls = concat (map words_of (map fields ls))
 
-abbrev pub as-sheet : TypedSheet → Sheet
-as-sheet s = record { outcome = s.outcome; figure = s.figure; attempts = s.attempts; twice = s.twice; lines = map fields s.lines }
+abbrev pub as_sheet : TypedSheet → Sheet
+as_sheet s = record { outcome = s.outcome; figure = s.figure; attempts = s.attempts; twice = s.twice; lines = map fields s.lines }
 
 -- ---- the lines of a nested form
 -- `nodes` has the node of each output ever defined, in order.
 module _ (nodes : List ℕ) where
   unfoldable mutual
-    pub typed-node : Node → List Line
-    typed-node (block n r k is) = block-line n (block-items nodes r k is) ∷ []
-    typed-node (select x cs) = select_line (shown-select nodes x) (case-numbers cs) ∷ typed-cases cs
-    typed-node (loop x ks) =
-        loop-line x.number (map (shown-value nodes) x.initial-inputs) x.body (shown-value nodes x.repeat)
-        ∷ region-line x.body x.types (kids ks) (map (shown-value nodes) x.outputs)
-        ∷ typed-nodes ks
-    typed-node (exit n op vs) = exit_line n op (map (shown-value nodes) vs) ∷ []
+    pub typed_node : Node → List Line
+    typed_node (block n r k is) = block_line n (block_items nodes r k is) ∷ []
+    typed_node (select x cs) = select_line (shown_select nodes x) (case_numbers cs) ∷ typed_cases cs
+    typed_node (loop x ks) =
+        loop_line x.number (map (shown_value nodes) x.initial_inputs) x.body (shown_value nodes x.repeat)
+        ∷ region_line x.body x.types (kids ks) (map (shown_value nodes) x.outputs)
+        ∷ typed_nodes ks
+    typed_node (exit n op vs) = exit_line n op (map (shown_value nodes) vs) ∷ []
 
-    pub typed-nodes : Nodes → List Line
-    typed-nodes ⟨⟩ = []
-    typed-nodes (k ▸ ks) = typed-node k ++ typed-nodes ks
+    pub typed_nodes : Nodes → List Line
+    typed_nodes ⟨⟩ = []
+    typed_nodes (k ▸ ks) = typed_node k ++ typed_nodes ks
 
-    pub typed-cases : Cases → List Line
-    typed-cases ∅ = []
-    typed-cases (case c ks cs) =
-        region-line c.region [] (kids ks) (map (shown-value nodes) c.outputs) ∷ (typed-nodes ks ++ typed-cases cs)
+    pub typed_cases : Cases → List Line
+    typed_cases ∅ = []
+    typed_cases (case c ks cs) =
+        region_line c.region [] (kids ks) (map (shown_value nodes) c.outputs) ∷ (typed_nodes ks ++ typed_cases cs)
 
-  abbrev pub typed-pieces : List Piece → List Line
-  typed-pieces [] = []
-  typed-pieces (p ∷ ps) =
-      region-line p.region p.inputs (kids p.children) (map (shown-value nodes) p.outputs)
-      ∷ (typed-nodes p.children ++ typed-pieces ps)
+  abbrev pub typed_pieces : List Piece → List Line
+  typed_pieces [] = []
+  typed_pieces (p ∷ ps) =
+      region_line p.region p.inputs (kids p.children) (map (shown_value nodes) p.outputs)
+      ∷ (typed_nodes p.children ++ typed_pieces ps)
 
-  abbrev pub typed-edge : ℕ → DeferredEdgeBundle → Line
-  typed-edge r e = defer-line (shown-edge nodes r e)
+  abbrev pub typed_edge : ℕ → DeferredEdgeBundle → Line
+  typed_edge r e = defer_line (shown_edge nodes r e)
 
-  abbrev pub typed-deferred : List Piece → List Line
-  typed-deferred [] = []
-  typed-deferred (p ∷ ps) = map (typed-edge p.region) p.deferred ++ typed-deferred ps
+  abbrev pub typed_deferred : List Piece → List Line
+  typed_deferred [] = []
+  typed_deferred (p ∷ ps) = map (typed_edge p.region) p.deferred ++ typed_deferred ps
 
-abbrev pub typed-lines : Nested → List Line
-typed-lines x =
-    typed-pieces x.output-nodes (x.entry ∷ x.unclaimed)
-    ++ typed-deferred x.output-nodes (ascending x.entry x.unclaimed)
+abbrev pub typed_lines : Nested → List Line
+typed_lines x =
+    typed_pieces x.output_nodes (x.entry ∷ x.unclaimed)
+    ++ typed_deferred x.output_nodes (ascending x.entry x.unclaimed)
 
-abbrev pub typed-sheet : Graph → Nested → TypedSheet
-typed-sheet g x =
-    let figured = figure g.test-cost x.entry.children in
-    let ls = typed-lines x in
+abbrev pub typed_sheet : Graph → Nested → TypedSheet
+typed_sheet g x =
+    let figured = figure g.test_cost x.entry.children in
+    let ls = typed_lines x in
     record {
       outcome = x.outcome;
       figure = elim x.outcome [ untouched ↦ 0 | whole ↦ figured | closed ↦ figured | leftover ↦ 0 ];

@@ -7,34 +7,34 @@ use Rattle.meaning.specs.Lists.{concat}
 use Rattle.meaning.specs.Graph.{Instr, Value, const, input, instr, output, bool, undef, held, Graph, no_value}
 use Rattle.meaning.specs.Runs.{Node, block, select, loop, exit, Nodes, ⟨⟩, ◌▸◌, Cases, ∅, case}
 use Rattle.meaning.specs.Text.{joined}
-use Rattle.nesting.specs.Nesting.{Outcome, LazyCond, undef-cond, false-cond, true-cond, merge, LazyConds, ◌&◌, DeferredTarget}
-use Rattle.nesting.specs.Nesting.{to-region, to-return, DeferredEdgeBundle, untouched, whole, closed, leftover, Piece, Nested}
-use Rattle.nesting.specs.Sheet.{condition, conditions, target, value, items, node_lines, nodes-lines, case-lines, piece-lines}
-use Rattle.nesting.specs.Sheet.{defer-fields, defer-lines, ascending, lines_of, sheet-of}
-use Rattle.nesting.specs.decoding.Lines.{value-field, item-field, target-field, condition-field, condition-fields, fields, as-sheet}
-use Rattle.nesting.specs.decoding.Lines.{typed-node, typed-nodes, typed-cases, typed-pieces, typed-edge, typed-deferred, typed-lines}
-use Rattle.nesting.specs.decoding.Lines.{typed-sheet}
-use Rattle.nesting.specs.ShownForm.{target-word, shown-cond, shown-conds, block-items, shown-value}
+use Rattle.nesting.specs.Nesting.{Outcome, LazyCond, undef_cond, false_cond, true_cond, merge, LazyConds, ◌&◌, DeferredTarget}
+use Rattle.nesting.specs.Nesting.{to_region, to_return, DeferredEdgeBundle, untouched, whole, closed, leftover, Piece, Nested}
+use Rattle.nesting.specs.Sheet.{condition, conditions, target, value, items, node_lines, nodes_lines, case_lines, piece_lines}
+use Rattle.nesting.specs.Sheet.{defer_fields, defer_lines, ascending, lines_of, sheet_of}
+use Rattle.nesting.specs.decoding.Lines.{value_field, item_field, target_field, condition_field, condition_fields, fields, as_sheet}
+use Rattle.nesting.specs.decoding.Lines.{typed_node, typed_nodes, typed_cases, typed_pieces, typed_edge, typed_deferred, typed_lines}
+use Rattle.nesting.specs.decoding.Lines.{typed_sheet}
+use Rattle.nesting.specs.ShownForm.{target_word, shown_cond, shown_conds, block_items, shown_value}
 
-target-written : (t : DeferredTarget) → target-field (target-word t) ≡ target t
-target-written (to-region r) = refl
-target-written to-return = refl
+target_written : (t : DeferredTarget) → target_field (target_word t) ≡ target t
+target_written (to_region r) = refl
+target_written to_return = refl
 
 mutual
-  unfolding condition condition-field shown-cond
+  unfolding condition condition_field shown_cond
 
-  condition-written : (c : LazyCond) → condition-field (shown-cond c) ≡ condition c
-  condition-written undef-cond = refl
-  condition-written false-cond = refl
-  condition-written true-cond = refl
-  condition-written (merge n kind v cs) = rw (conditions-written cs)
+  condition_written : (c : LazyCond) → condition_field (shown_cond c) ≡ condition c
+  condition_written undef_cond = refl
+  condition_written false_cond = refl
+  condition_written true_cond = refl
+  condition_written (merge n kind v cs) = rw (conditions_written cs)
 
-  conditions-written : (cs : LazyConds) → condition-fields (shown-conds cs) ≡ conditions cs
-  conditions-written LazyConds.no-conds = refl
-  conditions-written (c & cs) = rw (condition-written c, conditions-written cs)
+  conditions_written : (cs : LazyConds) → condition_fields (shown_conds cs) ≡ conditions cs
+  conditions_written LazyConds.no_conds = refl
+  conditions_written (c & cs) = rw (condition_written c, conditions_written cs)
 
 module _ (nodes : List ℕ) where
-  value_written : (v : Value) → value-field (shown-value nodes v) ≡ value nodes v
+  value_written : (v : Value) → value_field (shown_value nodes v) ≡ value nodes v
   unfolding joined
   value_written (const i) = refl
   value_written (input r k) = refl
@@ -46,75 +46,75 @@ module _ (nodes : List ℕ) where
   value_written no_value = refl
   value_written (held r k) = refl
 
-  values-written : (vs : List Value) → map value-field (map (shown-value nodes) vs) ≡ map (value nodes) vs
-  values-written [] = refl
-  values-written (v ∷ vs) = rw (value_written v, values-written vs)
+  values_written : (vs : List Value) → map value_field (map (shown_value nodes) vs) ≡ map (value nodes) vs
+  values_written [] = refl
+  values_written (v ∷ vs) = rw (value_written v, values_written vs)
 
-  items-written : (r k : ℕ) (is : List Instr) → map item-field (block-items nodes r k is) ≡ items nodes r k is
-  items-written r k [] = refl
-  items-written r k (i ∷ is) = rw (values-written i.reads, items-written r (suc k) is)
+  items_written : (r k : ℕ) (is : List Instr) → map item_field (block_items nodes r k is) ≡ items nodes r k is
+  items_written r k [] = refl
+  items_written r k (i ∷ is) = rw (values_written i.reads, items_written r (suc k) is)
 
   mutual
-    unfolding node_lines typed-node
+    unfolding node_lines typed_node
 
-    node-written : (k : Node) → map fields (typed-node nodes k) ≡ node_lines nodes k
-    node-written (block n r k is) = rw (items-written r k is)
-    node-written (select x cs) = rw (value_written x.scrutinee, cases-written cs)
-    node-written (loop x ks) =
-        rw (values-written x.initial-inputs, value_written x.repeat, values-written x.outputs, nodes-written ks)
-    node-written (exit n op vs) = rw (values-written vs)
+    node_written : (k : Node) → map fields (typed_node nodes k) ≡ node_lines nodes k
+    node_written (block n r k is) = rw (items_written r k is)
+    node_written (select x cs) = rw (value_written x.scrutinee, cases_written cs)
+    node_written (loop x ks) =
+        rw (values_written x.initial_inputs, value_written x.repeat, values_written x.outputs, nodes_written ks)
+    node_written (exit n op vs) = rw (values_written vs)
 
-    nodes-written : (ks : Nodes) → map fields (typed-nodes nodes ks) ≡ nodes-lines nodes ks
-    nodes-written ⟨⟩ = refl
-    nodes-written (k ▸ ks) = rw (map-append fields (typed-node nodes k) (typed-nodes nodes ks), node-written k, nodes-written ks)
+    nodes_written : (ks : Nodes) → map fields (typed_nodes nodes ks) ≡ nodes_lines nodes ks
+    nodes_written ⟨⟩ = refl
+    nodes_written (k ▸ ks) = rw (map-append fields (typed_node nodes k) (typed_nodes nodes ks), node_written k, nodes_written ks)
 
-    cases-written : (cs : Cases) → map fields (typed-cases nodes cs) ≡ case-lines nodes cs
-    cases-written ∅ = refl
-    cases-written (case c ks cs) =
+    cases_written : (cs : Cases) → map fields (typed_cases nodes cs) ≡ case_lines nodes cs
+    cases_written ∅ = refl
+    cases_written (case c ks cs) =
         rw (
-          values-written c.outputs,
-          map-append fields (typed-nodes nodes ks)
-              (typed-cases nodes cs),
-          nodes-written ks,
-          cases-written cs,
+          values_written c.outputs,
+          map-append fields (typed_nodes nodes ks)
+              (typed_cases nodes cs),
+          nodes_written ks,
+          cases_written cs,
         )
 
-  pieces-written : (ps : List Piece) → map fields (typed-pieces nodes ps) ≡ concat (map (piece-lines nodes) ps)
-  pieces-written [] = refl
-  pieces-written (p ∷ ps) =
+  pieces_written : (ps : List Piece) → map fields (typed_pieces nodes ps) ≡ concat (map (piece_lines nodes) ps)
+  pieces_written [] = refl
+  pieces_written (p ∷ ps) =
       let ks = p.children in
       rw (
-        values-written p.outputs,
-        map-append fields (typed-nodes nodes ks) (typed-pieces nodes ps),
-        nodes-written ks,
-        pieces-written ps,
+        values_written p.outputs,
+        map-append fields (typed_nodes nodes ks) (typed_pieces nodes ps),
+        nodes_written ks,
+        pieces_written ps,
       )
 
-  edges-written : (r : ℕ) (es : List DeferredEdgeBundle) → map fields (map (typed-edge nodes r) es) ≡ map (defer-fields nodes r) es
-  edges-written r [] = refl
-  edges-written r (e ∷ es) =
-      rw (target-written e.target, values-written e.target-inputs, condition-written e.condition, edges-written r es)
+  edges_written : (r : ℕ) (es : List DeferredEdgeBundle) → map fields (map (typed_edge nodes r) es) ≡ map (defer_fields nodes r) es
+  edges_written r [] = refl
+  edges_written r (e ∷ es) =
+      rw (target_written e.target, values_written e.target_inputs, condition_written e.condition, edges_written r es)
 
-  deferred-written : (ps : List Piece) → map fields (typed-deferred nodes ps) ≡ concat (map (defer-lines nodes) ps)
-  deferred-written [] = refl
-  deferred-written (p ∷ ps) =
-      map-append fields (map (typed-edge nodes p.region) p.deferred) (typed-deferred nodes ps)
-      ∙ λ i. edges-written p.region p.deferred i ++ deferred-written ps i
+  deferred_written : (ps : List Piece) → map fields (typed_deferred nodes ps) ≡ concat (map (defer_lines nodes) ps)
+  deferred_written [] = refl
+  deferred_written (p ∷ ps) =
+      map-append fields (map (typed_edge nodes p.region) p.deferred) (typed_deferred nodes ps)
+      ∙ λ i. edges_written p.region p.deferred i ++ deferred_written ps i
 
-lines-written : (x : Nested) → map fields (typed-lines x) ≡ lines_of x
-lines-written x =
-    let nodes = x.output-nodes in
+lines_written : (x : Nested) → map fields (typed_lines x) ≡ lines_of x
+lines_written x =
+    let nodes = x.output_nodes in
     let ps = x.entry ∷ x.unclaimed in
     let qs = ascending x.entry x.unclaimed in
-    map-append fields (typed-pieces nodes ps) (typed-deferred nodes qs)
-    ∙ λ i. pieces-written nodes ps i ++ deferred-written nodes qs i
+    map-append fields (typed_pieces nodes ps) (typed_deferred nodes qs)
+    ∙ λ i. pieces_written nodes ps i ++ deferred_written nodes qs i
 
-pub sheet-written : (g : Graph) (x : Nested) → as-sheet (typed-sheet g x) ≡ sheet-of g x
-unfolding sheet-of
-sheet-written g x = at x.outcome refl
+pub sheet_written : (g : Graph) (x : Nested) → as_sheet (typed_sheet g x) ≡ sheet_of g x
+unfolding sheet_of
+sheet_written g x = at x.outcome refl
   where
-    at : (o : Outcome) → x.outcome ≡ o → as-sheet (typed-sheet g x) ≡ sheet-of g x
+    at : (o : Outcome) → x.outcome ≡ o → as_sheet (typed_sheet g x) ≡ sheet_of g x
     at untouched e = rw e
-    at whole e = rw (e, lines-written x)
-    at closed e = rw (e, lines-written x)
-    at leftover e = rw (e, lines-written x)
+    at whole e = rw (e, lines_written x)
+    at closed e = rw (e, lines_written x)
+    at leftover e = rw (e, lines_written x)

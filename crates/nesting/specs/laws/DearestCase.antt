@@ -10,8 +10,8 @@ case_at ∅ j = ⟨⟩
 case_at (case c ks cs) zero = ks
 case_at (case c ks cs) (suc j) = case_at cs j
 
-pub dearest-case : (test-cost : ℕ) (cs : Cases) (j : ℕ) → figure test-cost (case_at cs j) ≤ dearest test-cost cs
+pub dearest_case : (test_cost : ℕ) (cs : Cases) (j : ℕ) → figure test_cost (case_at cs j) ≤ dearest test_cost cs
 unfolding figure
-dearest-case test-cost ∅ j = omega arith
-dearest-case test-cost (case c ks cs) zero = omega arith
-dearest-case test-cost (case c ks cs) (suc j) = let z = dearest-case test-cost cs j in omega arith
+dearest_case test_cost ∅ j = omega arith
+dearest_case test_cost (case c ks cs) zero = omega arith
+dearest_case test_cost (case c ks cs) (suc j) = let z = dearest_case test_cost cs j in omega arith

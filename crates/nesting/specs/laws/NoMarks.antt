@@ -7,102 +7,102 @@ use Rattle.meaning.specs.Lists.{any}
 use Rattle.meaning.specs.Runs.{Node, Nodes, ⟨⟩, ◌▸◌, block, select, loop, exit, Cases, ∅, case}
 use Rattle.format.specs.Store
 use Rattle.format.specs.Store.{accepted, refused}
-use Rattle.nesting.specs.Nesting.{LazyCond, condition-in, look-up-bundle, outcome-of, incoming-edge-counts, DeferredEdgeBundle}
+use Rattle.nesting.specs.Nesting.{LazyCond, condition_in, look_up_bundle, outcome_of, incoming_edge_counts, DeferredEdgeBundle}
 use Rattle.nesting.specs.Nesting.{DeferredEdgeBundleSet, Outcome, untouched, whole, closed, leftover, Piece, Nested, NestState}
-use Rattle.nesting.specs.Nesting.{StepAnswer, done, turned-away, NodeOutput, RewriteEntry, unmarked, look-up-last, ClaimedRegion}
-use Rattle.nesting.specs.Nesting.{IncomingEdgeCount, case-outputs, look-up-reads, look-up-node, look-up-nodes, look-up-cases}
-use Rattle.nesting.specs.Nesting.{look-up-piece, unclaimed-from, conclude-with, conclude-by, conclude, initial-state}
-use Rattle.nesting.specs.Nesting.{try-claim-edge-bundle, structurize-func-by, structurize-func}
-use Rattle.nesting.specs.AnswerValues.{marked, node-marked, nodes-marked, cases-marked, piece-marked, NoMarks}
+use Rattle.nesting.specs.Nesting.{StepAnswer, done, turned_away, NodeOutput, RewriteEntry, unmarked, look_up_last, ClaimedRegion}
+use Rattle.nesting.specs.Nesting.{IncomingEdgeCount, case_outputs, look_up_reads, look_up_node, look_up_nodes, look_up_cases}
+use Rattle.nesting.specs.Nesting.{look_up_piece, unclaimed_from, conclude_with, conclude_by, conclude, initial_state}
+use Rattle.nesting.specs.Nesting.{try_claim_edge_bundle, structurize_func_by, structurize_func}
+use Rattle.nesting.specs.AnswerValues.{marked, node_marked, nodes_marked, cases_marked, piece_marked, NoMarks}
 
-unmarked-is : (v : Value) → marked (unmarked v) ≡ false
-unmarked-is (held r k) = refl
-unmarked-is (const i) = refl
-unmarked-is (input r k) = refl
-unmarked-is (instr r k) = refl
-unmarked-is (output o) = refl
-unmarked-is (bool b) = refl
-unmarked-is (undef ty) = refl
-unmarked-is no_value = refl
+unmarked_is : (v : Value) → marked (unmarked v) ≡ false
+unmarked_is (held r k) = refl
+unmarked_is (const i) = refl
+unmarked_is (input r k) = refl
+unmarked_is (instr r k) = refl
+unmarked_is (output o) = refl
+unmarked_is (bool b) = refl
+unmarked_is (undef ty) = refl
+unmarked_is no_value = refl
 
 module _ (es : List RewriteEntry) where
   abbrev last : Value → Value
-  last v = (look-up-last es v).value
+  last v = (look_up_last es v).value
 
-  values-clear : (vs : List Value) → any marked (map last vs) ≡ false
-  values-clear [] = refl
-  values-clear (v ∷ vs) = rw (unmarked-is _, values-clear vs)
+  values_clear : (vs : List Value) → any marked (map last vs) ≡ false
+  values_clear [] = refl
+  values_clear (v ∷ vs) = rw (unmarked_is _, values_clear vs)
 
-  reads-clear : (is : List Instr) → any (λ i. any marked i.reads) (map (λ i. (look-up-reads (look-up-last es) i).value) is) ≡ false
-  reads-clear [] = refl
-  reads-clear (i ∷ is) = rw (values-clear i.reads, reads-clear is)
+  reads_clear : (is : List Instr) → any (λ i. any marked i.reads) (map (λ i. (look_up_reads (look_up_last es) i).value) is) ≡ false
+  reads_clear [] = refl
+  reads_clear (i ∷ is) = rw (values_clear i.reads, reads_clear is)
 
   module _ (os : List NodeOutput) where
     mutual
-      unfolding look-up-nodes nodes-marked
+      unfolding look_up_nodes nodes_marked
 
-      node-clear : (x : Node) → node-marked (look-up-node (look-up-last es) os x).value ≡ false
-      node-clear (block n r k is) = reads-clear is
-      node-clear (select x cs) = rw (unmarked-is _, cases-clear cs x.number 0)
-      node-clear (loop x ks) = rw (values-clear x.initial-inputs, values-clear x.outputs, unmarked-is _, nodes-clear ks)
-      node-clear (exit n op vs) = values-clear vs
+      node_clear : (x : Node) → node_marked (look_up_node (look_up_last es) os x).value ≡ false
+      node_clear (block n r k is) = reads_clear is
+      node_clear (select x cs) = rw (unmarked_is _, cases_clear cs x.number 0)
+      node_clear (loop x ks) = rw (values_clear x.initial_inputs, values_clear x.outputs, unmarked_is _, nodes_clear ks)
+      node_clear (exit n op vs) = values_clear vs
 
-      nodes-clear : (ks : Nodes) → nodes-marked (look-up-nodes (look-up-last es) os ks).value ≡ false
-      nodes-clear ⟨⟩ = refl
-      nodes-clear (x ▸ ks) = rw (node-clear x, nodes-clear ks)
+      nodes_clear : (ks : Nodes) → nodes_marked (look_up_nodes (look_up_last es) os ks).value ≡ false
+      nodes_clear ⟨⟩ = refl
+      nodes_clear (x ▸ ks) = rw (node_clear x, nodes_clear ks)
 
-      cases-clear : (cs : Cases) (n j : ℕ) → cases-marked (look-up-cases (look-up-last es) os cs n j).value ≡ false
-      cases-clear ∅ n j = refl
-      cases-clear (case c ks cs) n j = rw (values-clear (case-outputs n j os), nodes-clear ks, cases-clear cs n (suc j))
+      cases_clear : (cs : Cases) (n j : ℕ) → cases_marked (look_up_cases (look_up_last es) os cs n j).value ≡ false
+      cases_clear ∅ n j = refl
+      cases_clear (case c ks cs) n j = rw (values_clear (case_outputs n j os), nodes_clear ks, cases_clear cs n (suc j))
 
 module _ (g : Graph) (s : NestState) where
-  bundles-clear : (c : DeferredEdgeBundle → LazyCond) (d : DeferredEdgeBundleSet)
-      → any (λ e. any marked e.target-inputs) (map (λ e. (look-up-bundle (look-up-last s.region-input-rewrites) c e).value) d) ≡ false
-  bundles-clear c [] = refl
-  bundles-clear c (e ∷ d) = rw (values-clear s.region-input-rewrites e.target-inputs, bundles-clear c d)
+  bundles_clear : (c : DeferredEdgeBundle → LazyCond) (d : DeferredEdgeBundleSet)
+      → any (λ e. any marked e.target_inputs) (map (λ e. (look_up_bundle (look_up_last s.region_input_rewrites) c e).value) d) ≡ false
+  bundles_clear c [] = refl
+  bundles_clear c (e ∷ d) = rw (values_clear s.region_input_rewrites e.target_inputs, bundles_clear c d)
 
-  piece-clear : (p : Piece) → piece-marked (look-up-piece g s p).value ≡ false
-  unfolding look-up-piece
-  piece-clear p =
-      let es = s.region-input-rewrites in
-      let edges = bundles-clear (condition-in p.deferred) p.deferred in
-      rw (nodes-clear es s.node-outputs p.children, values-clear es p.outputs, edges)
+  piece_clear : (p : Piece) → piece_marked (look_up_piece g s p).value ≡ false
+  unfolding look_up_piece
+  piece_clear p =
+      let es = s.region_input_rewrites in
+      let edges = bundles_clear (condition_in p.deferred) p.deferred in
+      rw (nodes_clear es s.node_outputs p.children, values_clear es p.outputs, edges)
 
-  pieces-clear : (ps : List Piece) → any piece-marked (map (λ p. (look-up-piece g s p).value) ps) ≡ false
-  pieces-clear [] = refl
-  pieces-clear (p ∷ ps) = rw (piece-clear p, pieces-clear ps)
+  pieces_clear : (ps : List Piece) → any piece_marked (map (λ p. (look_up_piece g s p).value) ps) ≡ false
+  pieces_clear [] = refl
+  pieces_clear (p ∷ ps) = rw (piece_clear p, pieces_clear ps)
 
-concluded-clear : (g : Graph) (s : NestState) (o : Outcome) (p : Piece) (ps : List Piece) → NoMarks (conclude-with g s o p ps)
-concluded-clear g s o p ps = record { entry = piece-clear g s p; unclaimed = pieces-clear g s ps }
+concluded_clear : (g : Graph) (s : NestState) (o : Outcome) (p : Piece) (ps : List Piece) → NoMarks (conclude_with g s o p ps)
+concluded_clear g s o p ps = record { entry = piece_clear g s p; unclaimed = pieces_clear g s ps }
 
-by-outcome : (g : Graph) (s : NestState) (ks : Nodes) (d : DeferredEdgeBundleSet) (o : Outcome) → NoMarks (conclude-by g s ks d o)
-by-outcome g s ks d untouched = concluded-clear g s untouched _ []
-by-outcome g s ks d whole = concluded-clear g s whole _ []
-by-outcome g s ks d closed = concluded-clear g s closed _ []
-by-outcome g s ks d leftover = concluded-clear g s leftover _ (unclaimed-from g 0 s.region-states)
+by_outcome : (g : Graph) (s : NestState) (ks : Nodes) (d : DeferredEdgeBundleSet) (o : Outcome) → NoMarks (conclude_by g s ks d o)
+by_outcome g s ks d untouched = concluded_clear g s untouched _ []
+by_outcome g s ks d whole = concluded_clear g s whole _ []
+by_outcome g s ks d closed = concluded_clear g s closed _ []
+by_outcome g s ks d leftover = concluded_clear g s leftover _ (unclaimed_from g 0 s.region_states)
 
 -- The same of an answer, if it is one.
 abbrev Clear : Store.Answer Nested → Type 0
 Clear (accepted n) = NoMarks n
 Clear (refused k w) = Unit
 
-conclude-clear : (g : Graph) (a : StepAnswer (Option ClaimedRegion)) → Clear (conclude g a)
+conclude_clear : (g : Graph) (a : StepAnswer (Option ClaimedRegion)) → Clear (conclude g a)
 unfolding conclude
-conclude-clear g (turned-away k w) = tt
-conclude-clear g (done none s) = tt
-conclude-clear g (done (some c) s) = by-outcome g s c.children c.deferred-edges (outcome-of c.deferred-edges)
+conclude_clear g (turned_away k w) = tt
+conclude_clear g (done none s) = tt
+conclude_clear g (done (some c) s) = by_outcome g s c.children c.deferred_edges (outcome_of c.deferred_edges)
 
-func-clear : (g : Graph) (counts : List IncomingEdgeCount) → Clear (structurize-func-by g counts)
-unfolding structurize-func-by
-func-clear g counts = go (eqb (get_or counts g.entry 0) 1)
+func_clear : (g : Graph) (counts : List IncomingEdgeCount) → Clear (structurize_func_by g counts)
+unfolding structurize_func_by
+func_clear g counts = go (eqb (get_or counts g.entry 0) 1)
   where
     go : (b : Bool) → Clear (elim b [
-      | false ↦ accepted (conclude-by g (initial-state g) ⟨⟩ [] untouched)
-      | true ↦ conclude g (try-claim-edge-bundle g counts (suc (length g.regions)) g.entry 1 [] (initial-state g))
+      | false ↦ accepted (conclude_by g (initial_state g) ⟨⟩ [] untouched)
+      | true ↦ conclude g (try_claim_edge_bundle g counts (suc (length g.regions)) g.entry 1 [] (initial_state g))
     ])
-    go false = by-outcome g (initial-state g) ⟨⟩ [] untouched
-    go true = conclude-clear g _
+    go false = by_outcome g (initial_state g) ⟨⟩ [] untouched
+    go true = conclude_clear g _
 
-pub no-marks : (g : Graph) (n : Nested) → structurize-func g ≡ accepted n → NoMarks n
-unfolding structurize-func
-no-marks g n e = subst Clear e (func-clear g (incoming-edge-counts g))
+pub no_marks : (g : Graph) (n : Nested) → structurize_func g ≡ accepted n → NoMarks n
+unfolding structurize_func
+no_marks g n e = subst Clear e (func_clear g (incoming_edge_counts g))

@@ -5,19 +5,19 @@ use Rattle.nesting.specs.Nesting.{NestState}
 use Rattle.nesting.specs.steps.Keeps.{Steady, KeepsLog}
 
 pub record KeepsStates (s s' : NestState) : Type 0 where
-  pub states : s'.region-states ≡ s.region-states
+  pub states : s'.region_states ≡ s.region_states
   pub attempts : s'.attempts ≡ s.attempts
 
-pub states-kept-refl : (s : NestState) → KeepsStates s s
-states-kept-refl s = record { states = refl; attempts = refl }
+pub states_kept_refl : (s : NestState) → KeepsStates s s
+states_kept_refl s = record { states = refl; attempts = refl }
 
-pub states-kept-then : {s s' s'' : NestState} → KeepsStates s s' → KeepsStates s' s'' → KeepsStates s s''
-states-kept-then p q = record { states = q.states ∙ p.states; attempts = q.attempts ∙ p.attempts }
+pub states_kept_then : {s s' s'' : NestState} → KeepsStates s s' → KeepsStates s' s'' → KeepsStates s s''
+states_kept_then p q = record { states = q.states ∙ p.states; attempts = q.attempts ∙ p.attempts }
 
-pub states-kept-steady : Steady KeepsStates
-states-kept-steady = record {
-  same = states-kept-refl;
-  follows = states-kept-then;
+pub states_kept_steady : Steady KeepsStates
+states_kept_steady = record {
+  same = states_kept_refl;
+  follows = states_kept_then;
   region = λ s. record { states = refl; attempts = refl };
   node = λ s. record { states = refl; attempts = refl };
   merge = λ s. record { states = refl; attempts = refl };
@@ -25,5 +25,5 @@ states-kept-steady = record {
   twice = λ b s. record { states = refl; attempts = refl };
 }
 
-pub states-kept-log : KeepsLog KeepsStates
-states-kept-log x s = record { states = refl; attempts = refl }
+pub states_kept_log : KeepsLog KeepsStates
+states_kept_log x s = record { states = refl; attempts = refl }

@@ -2,33 +2,33 @@
 use Rattle.std.specs.Prelude.{◌≡◌, refl, true, List, map, ◌+◌}
 use Rattle.std.proofs.Common.{ap, eqb-true}
 use Rattle.meaning.specs.Runs.{Nodes, ⟨⟩}
-use Rattle.meaning.specs.facts.Tests.{eqb-self, eqb-sym}
-use Rattle.nesting.specs.Nesting.{DeferredTarget, to-region, to-return, same_target, MaybeClaimedRegion, ok, err, deferred-of}
-use Rattle.nesting.specs.Nesting.{PerCaseDeferred, per-case-deferred, DeferredEdgeBundle, DeferredTargetSummary}
+use Rattle.meaning.specs.facts.Tests.{eqb_self, eqb_sym}
+use Rattle.nesting.specs.Nesting.{DeferredTarget, to_region, to_return, same_target, MaybeClaimedRegion, ok, err, deferred_of}
+use Rattle.nesting.specs.Nesting.{PerCaseDeferred, per_case_deferred, DeferredEdgeBundle, DeferredTargetSummary}
 
-pub same-target-sym : (a b : DeferredTarget) → same_target a b ≡ same_target b a
-same-target-sym (to-region a) (to-region b) = eqb-sym a b
-same-target-sym (to-region a) to-return = refl
-same-target-sym to-return (to-region b) = refl
-same-target-sym to-return to-return = refl
+pub same_target_sym : (a b : DeferredTarget) → same_target a b ≡ same_target b a
+same_target_sym (to_region a) (to_region b) = eqb_sym a b
+same_target_sym (to_region a) to_return = refl
+same_target_sym to_return (to_region b) = refl
+same_target_sym to_return to_return = refl
 
-pub same-target-self : (a : DeferredTarget) → same_target a a ≡ true
-same-target-self (to-region a) = eqb-self a
-same-target-self to-return = refl
+pub same_target_self : (a : DeferredTarget) → same_target a a ≡ true
+same_target_self (to_region a) = eqb_self a
+same_target_self to_return = refl
 
-pub same-target-is : (a b : DeferredTarget) → same_target a b ≡ true → a ≡ b
-same-target-is (to-region a) (to-region b) p = ap to-region (eqb-true a b p)
-same-target-is (to-region a) to-return p = cc
-same-target-is to-return (to-region b) p = cc
-same-target-is to-return to-return p = refl
+pub same_target_is : (a b : DeferredTarget) → same_target a b ≡ true → a ≡ b
+same_target_is (to_region a) (to_region b) p = ap to_region (eqb-true a b p)
+same_target_is (to_region a) to_return p = cc
+same_target_is to_return (to_region b) p = cc
+same_target_is to_return to_return p = refl
 
-abbrev pub children-in : MaybeClaimedRegion → Nodes
-children-in (ok c) = c.children
-children-in (err d) = ⟨⟩
+abbrev pub children_in : MaybeClaimedRegion → Nodes
+children_in (ok c) = c.children
+children_in (err d) = ⟨⟩
 
-abbrev pub per-cases : DeferredTarget → List MaybeClaimedRegion → List PerCaseDeferred
-per-cases x cs = map (λ c. per-case-deferred x (deferred-of c)) cs
+abbrev pub per_cases : DeferredTarget → List MaybeClaimedRegion → List PerCaseDeferred
+per_cases x cs = map (λ c. per_case_deferred x (deferred_of c)) cs
 
-abbrev pub summary-with : DeferredEdgeBundle → DeferredTargetSummary → DeferredTargetSummary
-summary-with e t =
-    record { target = t.target; input-count = t.input-count; total-edge-count = t.total-edge-count + e.accumulated-count }
+abbrev pub summary_with : DeferredEdgeBundle → DeferredTargetSummary → DeferredTargetSummary
+summary_with e t =
+    record { target = t.target; input_count = t.input_count; total_edge_count = t.total_edge_count + e.accumulated_count }

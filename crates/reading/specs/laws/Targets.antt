@@ -3,53 +3,53 @@ use Rattle.std.specs.Prelude.{◌≡◌, refl, Bool, true, false, ◌||◌, List
 use Rattle.std.proofs.Common.{sym, ap, ◌∙◌, arith, add-one, get_or-take, leb-true, leb-false, eq-eqb, ne_eqb}
 use Rattle.std.proofs.Math.Bool.{or-true}
 use Rattle.format.specs.Read.{got, word, many}
-use Rattle.meaning.specs.Lists.{is-in, pick, distinct_from}
-use Rattle.meaning.specs.facts.Members.{is-in-snoc}
+use Rattle.meaning.specs.Lists.{is_in, pick, distinct_from}
+use Rattle.meaning.specs.facts.Members.{is_in_snoc}
 use Rattle.meaning.specs.facts.Distinct.{distinct_snoc}
-use Rattle.format.specs.laws.Readers.{part, got-value}
+use Rattle.format.specs.laws.Readers.{part, got_value}
 use Rattle.reading.specs.Readings.{stands, first, firsts}
-use Rattle.reading.specs.laws.Parts.{word-parts}
+use Rattle.reading.specs.laws.Parts.{word_parts}
 
-pub first-bound : (w : List ℕ) (from n : ℕ) → first w from n ≤ 1
+pub first_bound : (w : List ℕ) (from n : ℕ) → first w from n ≤ 1
 unfolding first
-first-bound w from n = by-test (stands w from (get_or w (from + n) 0) n)
+first_bound w from n = by_test (stands w from (get_or w (from + n) 0) n)
   where
-    by-test : (b : Bool) → pick b 0 1 ≤ 1
-    by-test true = omega arith
-    by-test false = omega arith
+    by_test : (b : Bool) → pick b 0 1 ≤ 1
+    by_test true = omega arith
+    by_test false = omega arith
 
-pub firsts-next : (w : List ℕ) (from n : ℕ) {k d : ℕ} → k ≡ firsts w from n → d ≡ first w from n → k + d ≡ firsts w from (n + 1)
+pub firsts_next : (w : List ℕ) (from n : ℕ) {k d : ℕ} → k ≡ firsts w from n → d ≡ first w from n → k + d ≡ firsts w from (n + 1)
 unfolding firsts
-firsts-next w from n p q = rw (add-one, p, q)
+firsts_next w from n p q = rw (add-one, p, q)
 
-pub firsts-end : (w : List ℕ) (from n k : ℕ) {d : ℕ} → n ≤ k → k ≤ n → d ≡ firsts w from n → d ≡ firsts w from k
-firsts-end w from n k p q h = let same : k ≡ n = omega arith in rw same h
+pub firsts_end : (w : List ℕ) (from n k : ℕ) {d : ℕ} → n ≤ k → k ≤ n → d ≡ firsts w from n → d ≡ firsts w from k
+firsts_end w from n k p q h = let same : k ≡ n = omega arith in rw same h
 
 -- The n words from a place on.
-unfoldable pub words-from : List ℕ → ℕ → ℕ → List ℕ
-words-from w from zero = []
-words-from w from (suc n) = words-from w from n ++ (get_or w (from + n) 0 ∷ [])
+unfoldable pub words_from : List ℕ → ℕ → ℕ → List ℕ
+words_from w from zero = []
+words_from w from (suc n) = words_from w from n ++ (get_or w (from + n) 0 ∷ [])
 
-stands-in : (w : List ℕ) (from t n : ℕ) → stands w from t n ≡ is-in t (words-from w from n)
-unfolding stands words-from
-stands-in w from t zero = refl
-stands-in w from t (suc n) =
-    ap (λ b. b || eqb t (get_or w (from + n) 0)) (stands-in w from t n) ∙ sym (is-in-snoc t (get_or w (from + n) 0) (words-from w from n))
+stands_in : (w : List ℕ) (from t n : ℕ) → stands w from t n ≡ is_in t (words_from w from n)
+unfolding stands words_from
+stands_in w from t zero = refl
+stands_in w from t (suc n) =
+    ap (λ b. b || eqb t (get_or w (from + n) 0)) (stands_in w from t n) ∙ sym (is_in_snoc t (get_or w (from + n) 0) (words_from w from n))
 
-pub firsts-distinct : (w : List ℕ) (from n : ℕ) → firsts w from n ≡ length (distinct_from [] (words-from w from n))
-unfolding firsts first words-from distinct_from
-firsts-distinct w from zero = refl
-firsts-distinct w from (suc n) =
+pub firsts_distinct : (w : List ℕ) (from n : ℕ) → firsts w from n ≡ length (distinct_from [] (words_from w from n))
+unfolding firsts first words_from distinct_from
+firsts_distinct w from zero = refl
+firsts_distinct w from (suc n) =
     let t = get_or w (from + n) 0 in
-    ap (λ k. k + pick (stands w from t n) 0 1) (firsts-distinct w from n)
-    ∙ ap (λ b. length (distinct_from [] (words-from w from n)) + pick b 0 1) (stands-in w from t n)
-    ∙ sym (distinct_snoc [] (words-from w from n) t)
+    ap (λ k. k + pick (stands w from t n) 0 1) (firsts_distinct w from n)
+    ∙ ap (λ b. length (distinct_from [] (words_from w from n)) + pick b 0 1) (stands_in w from t n)
+    ∙ sym (distinct_snoc [] (words_from w from n) t)
 
 -- a word that stands among the first stands among more
-pub stands-more : (w : List ℕ) (from t n k : ℕ) → n ≤ k → stands w from t n ≡ true → stands w from t k ≡ true
+pub stands_more : (w : List ℕ) (from t n k : ℕ) → n ≤ k → stands w from t n ≡ true → stands w from t k ≡ true
 unfolding stands
-stands-more w from t n zero l h = let same : n ≡ 0 = omega arith in rw same at h
-stands-more w from t n (suc k) l h = by_order (leb n k) refl (λ m. stands-more w from t n k m h)
+stands_more w from t n zero l h = let same : n ≡ 0 = omega arith in rw same at h
+stands_more w from t n (suc k) l h = by_order (leb n k) refl (λ m. stands_more w from t n k m h)
   where
     by_order : (b : Bool) → leb n k ≡ b → (n ≤ k → stands w from t k ≡ true) → (stands w from t k || eqb t (get_or w (from + k) 0)) ≡ true
     by_order true q more = ap (λ b. b || eqb t (get_or w (from + k) 0)) (more (leb-true n k q))
@@ -59,45 +59,45 @@ stands-more w from t n (suc k) l h = by_order (leb n k) refl (λ m. stands-more 
 pub stands_here : (w : List ℕ) (from t n k : ℕ) → n < k → t ≡ get_or w (from + n) 0 → true ≡ stands w from t k
 unfolding stands
 stands_here w from t n k l h =
-    sym (stands-more w from t (suc n) k l (ap (λ b. stands w from t n || b) (eq-eqb t (get_or w (from + n) 0) h)
+    sym (stands_more w from t (suc n) k l (ap (λ b. stands w from t n || b) (eq-eqb t (get_or w (from + n) 0) h)
     ∙ or-true (stands w from t n)))
 
-pub stands-not : (w : List ℕ) (from t n : ℕ) → false ≡ stands w from t n → (t ≡ get_or w (from + n) 0 → ⊥) → false ≡ stands w from t (n + 1)
+pub stands_not : (w : List ℕ) (from t n : ℕ) → false ≡ stands w from t n → (t ≡ get_or w (from + n) 0 → ⊥) → false ≡ stands w from t (n + 1)
 unfolding stands
-stands-not w from t n p q = rw (add-one, ← p, ne_eqb t (get_or w (from + n) 0) q)
+stands_not w from t n p q = rw (add-one, ← p, ne_eqb t (get_or w (from + n) 0) q)
 
-pub stands-end : (w : List ℕ) (from t n k : ℕ) → n ≤ k → k ≤ n → false ≡ stands w from t n → false ≡ stands w from t k
-stands-end w from t n k p q h = let same : k ≡ n = omega arith in rw same h
+pub stands_end : (w : List ℕ) (from t n k : ℕ) → n ≤ k → k ≤ n → false ≡ stands w from t n → false ≡ stands w from t k
+stands_end w from t n k p q h = let same : k ≡ n = omega arith in rw same h
 
-pub first-zero : (w : List ℕ) (from n : ℕ) → stands w from (get_or w (from + n) 0) n ≡ true → 0 ≡ first w from n
+pub first_zero : (w : List ℕ) (from n : ℕ) → stands w from (get_or w (from + n) 0) n ≡ true → 0 ≡ first w from n
 unfolding first
-first-zero w from n h = rw h
+first_zero w from n h = rw h
 
 pub first_one : (w : List ℕ) (from n : ℕ) → stands w from (get_or w (from + n) 0) n ≡ false → 1 ≡ first w from n
 unfolding first
 first_one w from n h = rw h
 
-words-from-front : (w : List ℕ) (from n : ℕ) → words-from w from (suc n) ≡ get_or w from 0 ∷ words-from w (from + 1) n
-unfolding words-from
-words-from-front w from zero = ap (λ i. get_or w i 0 ∷ []) (omega arith)
-words-from-front w from (suc n) =
-    ap (λ l. l ++ (get_or w (from + suc n) 0 ∷ [])) (words-from-front w from n)
-    ∙ ap (λ i. get_or w from 0 ∷ (words-from w (from + 1) n ++ (get_or w i 0 ∷ []))) (omega arith)
+words_from_front : (w : List ℕ) (from n : ℕ) → words_from w from (suc n) ≡ get_or w from 0 ∷ words_from w (from + 1) n
+unfolding words_from
+words_from_front w from zero = ap (λ i. get_or w i 0 ∷ []) (omega arith)
+words_from_front w from (suc n) =
+    ap (λ l. l ++ (get_or w (from + suc n) 0 ∷ [])) (words_from_front w from n)
+    ∙ ap (λ i. get_or w from 0 ∷ (words_from w (from + 1) n ++ (get_or w i 0 ∷ []))) (omega arith)
 
 -- What n readings of a word give.
-pub many-words : (n : ℕ) (ws : List ℕ) (at : ℕ) {ts : List ℕ} {e : ℕ} → many n word ws at ≡ got ts e → ts ≡ words-from ws at n
-unfolding many words-from
-many-words zero ws at h = sym (got-value h)
-many-words (suc n) ws at {ts} {e} h =
+pub many_words : (n : ℕ) (ws : List ℕ) (at : ℕ) {ts : List ℕ} {e : ℕ} → many n word ws at ≡ got ts e → ts ≡ words_from ws at n
+unfolding many words_from
+many_words zero ws at h = sym (got_value h)
+many_words (suc n) ws at {ts} {e} h =
     let a = part (word ws at) _ ts e h in
     let b = part (many n word ws a.place) _ ts e a.second in
-    joined a.value a.place b.value (word-parts ws at a.first).is (word-parts ws at a.first).end
-    (many-words n ws a.place b.first) (got-value b.second)
+    joined a.value a.place b.value (word_parts ws at a.first).is (word_parts ws at a.first).end
+    (many_words n ws a.place b.first) (got_value b.second)
   where
-    joined : (x p : ℕ) (xs : List ℕ) → x ≡ get_or ws at 0 → p ≡ at + 1 → xs ≡ words-from ws p n → x ∷ xs ≡ ts → ts ≡ words-from ws at (suc n)
+    joined : (x p : ℕ) (xs : List ℕ) → x ≡ get_or ws at 0 → p ≡ at + 1 → xs ≡ words_from ws p n → x ∷ xs ≡ ts → ts ≡ words_from ws at (suc n)
     joined x p xs is end rest whole =
-        sym whole ∙ ap (λ z. z ∷ xs) is ∙ ap (λ l. get_or ws at 0 ∷ l) (rest ∙ ap (λ i. words-from ws i n) end)
-        ∙ sym (words-from-front ws at n)
+        sym whole ∙ ap (λ z. z ∷ xs) is ∙ ap (λ l. get_or ws at 0 ∷ l) (rest ∙ ap (λ i. words_from ws i n) end)
+        ∙ sym (words_from_front ws at n)
 
 -- each of them stands below W
 pub words_inside : (n : ℕ) (ws : List ℕ) (at : ℕ) {ts : List ℕ} {e : ℕ} → many n word ws at ≡ got ts e → (j : ℕ) → j < n
@@ -107,7 +107,7 @@ words_inside zero ws at h j l = absurd (omega arith)
 words_inside (suc n) ws at {ts} {e} h j l =
     let a = part (word ws at) _ ts e h in
     let b = part (many n word ws a.place) _ ts e a.second in
-    let w = word-parts ws at a.first in
+    let w = word_parts ws at a.first in
     by_place a.place w.end w.inside j l (words_inside n ws a.place b.first)
   where
     by_place : (p : ℕ) → p ≡ at + 1 → at < length ws → (j : ℕ) → j < suc n → ((i : ℕ) → i < n → p + i < length ws) → at + j < length ws
@@ -115,19 +115,19 @@ words_inside (suc n) ws at {ts} {e} h j l =
     by_place p end inside (suc j) l deeper = omega (arith, deeper j (omega arith))
 
 -- the record's words are the lent words
-stands-taken : (w : List ℕ) (count from t n : ℕ) → ((j : ℕ) → j < n → from + j < count) → stands (take count w) from t n ≡ stands w from t n
+stands_taken : (w : List ℕ) (count from t n : ℕ) → ((j : ℕ) → j < n → from + j < count) → stands (take count w) from t n ≡ stands w from t n
 unfolding stands
-stands-taken w count from t zero h = refl
-stands-taken w count from t (suc n) h =
-    rw (get_or-take count w (from + n) 0 (h n (omega arith)), stands-taken w count from t n (λ j l. h j (omega arith)))
+stands_taken w count from t zero h = refl
+stands_taken w count from t (suc n) h =
+    rw (get_or-take count w (from + n) 0 (h n (omega arith)), stands_taken w count from t n (λ j l. h j (omega arith)))
 
-pub firsts-taken : (w : List ℕ) (count from n : ℕ) → ((j : ℕ) → j < n → from + j < count) → firsts (take count w) from n ≡ firsts w from n
+pub firsts_taken : (w : List ℕ) (count from n : ℕ) → ((j : ℕ) → j < n → from + j < count) → firsts (take count w) from n ≡ firsts w from n
 unfolding firsts first
-firsts-taken w count from zero h = refl
-firsts-taken w count from (suc n) h =
+firsts_taken w count from zero h = refl
+firsts_taken w count from (suc n) h =
     let below : (j : ℕ) → j < n → from + j < count = λ j l. h j (omega arith) in
     rw (
       get_or-take count w (from + n) 0 (h n (omega arith)),
-      firsts-taken w count from n below,
-      stands-taken w count from (get_or w (from + n) 0) n below,
+      firsts_taken w count from n below,
+      stands_taken w count from (get_or w (from + n) 0) n below,
     )

@@ -1,8 +1,8 @@
 -- The record is too long, its head is refused, or the regions decide.
 use mathlib.Core.Path.{refl, sym}
 use native.Mathlib.Omega.{arith}
-use Rattle.reading.specs.laws.AnswerSteps.{word_read, word-refused}
-use Rattle.record.specs.laws.RecordSteps.{in_words, too_long, record-stop, record-whole, head_few, number-of-head}
+use Rattle.reading.specs.laws.AnswerSteps.{word_read, word_refused}
+use Rattle.record.specs.laws.RecordSteps.{in_words, too_long, record_stop, record_whole, head_few, number_of_head}
 use borrow.Author.Rules.{rules}
 use Rattle.record.proofs.read_record.Statement.{statement}
 use Rattle.record.proofs.read_record.Tie as tie
@@ -28,7 +28,7 @@ enum-known-m c = search rules
 refusal-requires : tie.Need-refusal-requires
 refusal-requires c κs =
     let read = c.before.before.before.read_head in
-    number-of-head _ (word-refused _ _ _ refl read.ensures c.before.m.given.1)
+    number_of_head _ (word_refused _ _ _ refl read.ensures c.before.m.given.1)
 
 enum-known-n : tie.Need-enum-known-n
 enum-known-n c = search rules
@@ -42,24 +42,24 @@ read-regions-requires c κs =
     let a = word_read _ _ _ refl read.ensures at_n.n.given.1 in
     (omega (arith, a.same, at-if.if1.false), head_few _ a.is)
 
-returns-2 : tie.Need-returns-2
-returns-2 c =
+returns_2 : tie.Need-returns-2
+returns_2 c =
     let at-read-head = c.before.before.before.before in
     let at_before = at-read-head.before in
     let read = at-read-head.read_head in
     let test = at_before.before in
-    let head = word-refused _ _ _ refl read.ensures c.before.before.m.given.1 in
-    in_words _ _ _ _ test.before.word_at.ensures test.if1.false (record-stop _ _ _ head c.refusal.ensures)
+    let head = word_refused _ _ _ refl read.ensures c.before.before.m.given.1 in
+    in_words _ _ _ _ test.before.word_at.ensures test.if1.false (record_stop _ _ _ head c.refusal.ensures)
 
-returns-3 : tie.Need-returns-3
-returns-3 c =
+returns_3 : tie.Need-returns-3
+returns_3 c =
     let read = c.before.before.before.before.before.read_head in
     let test = c.before.before.before.before.before.before.before in
     let first = test.before.word_at.ensures in
     let size = test.before.before.before.before.tells-length-arg2.given in
     let head = word_read _ _ _ refl read.ensures c.before.before.before.n.given.1 in
     in_words _ _ _ _ first test.if1.false
-    (record-whole _ _ _ _ _ _ test.if1.false (sym first) (record { room = omega arith; few = omega arith }) head.is
+    (record_whole _ _ _ _ _ _ test.if1.false (sym first) (record { room = omega arith; few = omega arith }) head.is
     (rw head.same at c.read-regions.ensures))
 
 pub read-record-spec : {M : Type 1} → statement M
@@ -75,5 +75,5 @@ read-record-spec =
     refusal-requires
     enum-known-n
     read-regions-requires
-    returns-2
-    returns-3)
+    returns_2
+    returns_3)

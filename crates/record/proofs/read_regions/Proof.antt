@@ -1,13 +1,13 @@
--- The loop follows `regions-from`, and the index has each region passed (`RegionsGoing`).
+-- The loop follows `regions_from`, and the index has each region passed (`RegionsGoing`).
 use mathlib.Core.Path.{◌≡◌, refl, sym, ◌∙◌}
 use Prim.Native.Nat.{◌-◌}
 use native.Mathlib.Omega.{arith}
 use borrow.Author.Rules.{rules}
-use Rattle.reading.specs.laws.AnswerSteps.{step-read}
-use Rattle.meaning.specs.facts.Parts.{taken-inside}
-use Rattle.record.specs.laws.RegionsForgotten.{region-inside}
-use Rattle.record.specs.laws.IndexSteps.{RegionsGoing, regions-start, regions-next, number-of-region, regions-refused}
-use Rattle.record.specs.laws.IndexSteps.{regions-read, regions-left}
+use Rattle.reading.specs.laws.AnswerSteps.{step_read}
+use Rattle.meaning.specs.facts.Parts.{taken_inside}
+use Rattle.record.specs.laws.RegionsForgotten.{region_inside}
+use Rattle.record.specs.laws.IndexSteps.{RegionsGoing, regions_start, regions_next, number_of_region, regions_refused}
+use Rattle.record.specs.laws.IndexSteps.{regions_read, regions_left}
 use Rattle.record.proofs.read_regions.Statement.{statement}
 use Rattle.record.proofs.read_regions.Tie as tie
 
@@ -20,8 +20,8 @@ decreases-loop w₀ n r₀ c₀ w r c = n - r
 tells-length-requires : tie.Need-tells-length-requires invariant-loop decreases-loop
 tells-length-requires c κs = search rules
 
-loop-holds : tie.Need-loop-init invariant-loop decreases-loop
-loop-holds c = (regions-start _ _ _ _, refl)
+loop_holds : tie.Need-loop-init invariant-loop decreases-loop
+loop_holds c = (regions_start _ _ _ _, refl)
 
 read-region-requires : tie.Need-read-region-requires invariant-loop decreases-loop
 read-region-requires c κs = search rules
@@ -35,9 +35,9 @@ refusal-requires c κs =
     let turn = at-read-region.before.before in
     let at-loop = turn.before in
     let start = at-loop.before.before.before.before in
-    number-of-region _ _ _ _ _ at-read-region.read-region.result at-loop.loop.invariant.0 at-loop.loop.invariant.1
+    number_of_region _ _ _ _ _ at-read-region.read_region.result at-loop.loop.invariant.0 at-loop.loop.invariant.1
     turn.loop-test.true
-    start.requires.0 at-read-region.read-region.ensures c.before.step.given.1
+    start.requires.0 at-read-region.read_region.ensures c.before.step.given.1
 
 returns : tie.Need-returns invariant-loop decreases-loop
 returns c =
@@ -45,8 +45,8 @@ returns c =
     let turn = at-read-region.before.before in
     let at-loop = turn.before in
     let start = at-loop.before.before.before.before in
-    regions-refused _ _ _ _ _ at-read-region.read-region.result at-loop.loop.invariant.0 at-loop.loop.invariant.1 turn.loop-test.true
-    start.requires.0 at-read-region.read-region.ensures _ c.before.before.step.given.1 c.refusal.ensures
+    regions_refused _ _ _ _ _ at-read-region.read_region.result at-loop.loop.invariant.0 at-loop.loop.invariant.1 turn.loop-test.true
+    start.requires.0 at-read-region.read_region.ensures _ c.before.before.step.given.1 c.refusal.ensures
 
 enum-known-step-2 : tie.Need-enum-known-step-2 invariant-loop decreases-loop
 enum-known-step-2 c = search rules
@@ -57,13 +57,13 @@ cast-put-places c =
     let at-read-region = at-step.before.before in
     let at-loop = at-read-region.before.before.before in
     let at-args = at-loop.before.before.before.before in
-    let a = step-read _ _ _ at-loop.loop.invariant.1
-    at-read-region.read-region.ensures.step at-step.step2.given.1 in
+    let a = step_read _ _ _ at-loop.loop.invariant.1
+    at-read-region.read_region.ensures.step at-step.step2.given.1 in
     omega (
       arith,
-      (taken-inside at-loop.loop.w
+      (taken_inside at-loop.loop.w
           at-args.args.from.end
-          (region-inside _ _ a.is)).0,
+          (region_inside _ _ a.is)).0,
     )
 
 put-places-requires : tie.Need-put-places-requires invariant-loop decreases-loop
@@ -72,31 +72,31 @@ put-places-requires c κs = omega arith
 add_r : tie.Need-overflow-add-r invariant-loop decreases-loop
 add_r c = omega arith
 
-loop-less : tie.Need-loop-smaller invariant-loop decreases-loop
-loop-less c = omega arith
+loop_less : tie.Need-loop-smaller invariant-loop decreases-loop
+loop_less c = omega arith
 
-loop-again : tie.Need-loop-preserved invariant-loop decreases-loop
-loop-again c =
+loop_again : tie.Need-loop-preserved invariant-loop decreases-loop
+loop_again c =
     let at-step2 = c.before.before.before.before in
     let at-read-region = at-step2.before.before in
     let turn = at-read-region.before.before in
     let at-loop = turn.before in
     let start = at-loop.before.before.before.before in
-    let a = step-read _ _ _ at-loop.loop.invariant.1 at-read-region.read-region.ensures.step at-step2.step2.given.1 in (
-      regions-next _ _ _ _ _ at-read-region.read-region.result at-loop.loop.invariant.0 at-loop.loop.invariant.1 turn.loop-test.true
-          start.requires.0 at-read-region.read-region.ensures _ start.requires.1 at-step2.step2.given.1 c.put-places.ensures,
+    let a = step_read _ _ _ at-loop.loop.invariant.1 at-read-region.read_region.ensures.step at-step2.step2.given.1 in (
+      regions_next _ _ _ _ _ at-read-region.read_region.result at-loop.loop.invariant.0 at-loop.loop.invariant.1 turn.loop-test.true
+          start.requires.0 at-read-region.read_region.ensures _ start.requires.1 at-step2.step2.given.1 c.put-places.ensures,
       a.same,
     )
 
-returns-2 : tie.Need-returns-2 invariant-loop decreases-loop
-returns-2 c =
-    regions-read _ _ _ _ c.before.before.before.loop.invariant.0 c.before.before.loop-test.false
+returns_2 : tie.Need-returns-2 invariant-loop decreases-loop
+returns_2 c =
+    regions_read _ _ _ _ c.before.before.before.loop.invariant.0 c.before.before.loop-test.false
     (omega (arith, c.before.before.before.before.before.tells-length-arg2.given))
     (c.if1.true ∙ c.before.before.before.loop.invariant.1)
 
-returns-3 : tie.Need-returns-3 invariant-loop decreases-loop
-returns-3 c =
-    regions-left _ _ _ _ c.before.before.before.loop.invariant.0 c.before.before.loop-test.false
+returns_3 : tie.Need-returns-3 invariant-loop decreases-loop
+returns_3 c =
+    regions_left _ _ _ _ c.before.before.before.loop.invariant.0 c.before.before.loop-test.false
     (omega (arith, c.before.before.before.before.before.tells-length-arg2.given))
     (λ q. c.if1.false (q ∙ sym c.before.before.before.loop.invariant.1))
 
@@ -107,7 +107,7 @@ read-regions-spec =
     invariant-loop
     decreases-loop
     tells-length-requires
-    loop-holds
+    loop_holds
     read-region-requires
     enum-known-step
     refusal-requires
@@ -116,7 +116,7 @@ read-regions-spec =
     cast-put-places
     put-places-requires
     add_r
-    loop-less
-    loop-again
-    returns-2
-    returns-3)
+    loop_less
+    loop_again
+    returns_2
+    returns_3)

@@ -4,8 +4,8 @@ use Rattle.std.proofs.Common.{sym, ap, subst, ◌∙◌, arith, length-set, leng
 use Rattle.std.proofs.lemmas.Bool.{eqb-false}
 use Rattle.record.specs.Index.{Row}
 
-pub row-none : (old : List ℕ) (at : ℕ) (f : ℕ → ℕ) → Row old old at 0 f
-row-none old at f = record { size = refl; below = λ k l. refl; above = λ k l. refl; row = λ k l. absurd (omega arith) }
+pub row_none : (old : List ℕ) (at : ℕ) (f : ℕ → ℕ) → Row old old at 0 f
+row_none old at f = record { size = refl; below = λ k l. refl; above = λ k l. refl; row = λ k l. absurd (omega arith) }
 
 -- one word more
 pub row_next : (old new : List ℕ) (at n : ℕ) (f : ℕ → ℕ) {v : ℕ} → Row old new at n f → at + n < length old → v ≡ f n
@@ -24,13 +24,13 @@ row_next old new at n f {v} r l h =
         let other = eqb-false k n q in
         get_or-set_other new (at + n) (at + k) v 0 (λ p. other (omega arith)) ∙ r.row k (omega (arith, other))
 
-pub row-end : (old new : List ℕ) (at n m : ℕ) (f : ℕ → ℕ) → n ≤ m → m ≤ n → Row old new at n f → Row old new at m f
-row-end old new at n m f p q r = let same : n ≡ m = omega arith in subst (λ k. Row old new at k f) same r
+pub row_end : (old new : List ℕ) (at n m : ℕ) (f : ℕ → ℕ) → n ≤ m → m ≤ n → Row old new at n f → Row old new at m f
+row_end old new at n m f p q r = let same : n ≡ m = omega arith in subst (λ k. Row old new at k f) same r
 
 -- two rows, one after the other
-pub row-join : (old mid new : List ℕ) (at n m : ℕ) (f g : ℕ → ℕ) → Row old mid at n f → Row mid new (at + n) m g
+pub row_join : (old mid new : List ℕ) (at n m : ℕ) (f g : ℕ → ℕ) → Row old mid at n f → Row mid new (at + n) m g
     → ((k : ℕ) → g k ≡ f (n + k)) → Row old new at (n + m) f
-row-join old mid new at n m f g a b same =
+row_join old mid new at n m f g a b same =
     record {
       size = b.size ∙ a.size;
       below = λ k l. b.below k (omega arith) ∙ a.below k l;
@@ -47,8 +47,8 @@ row-join old mid new at n m f g a b same =
         ap (λ i. get_or new i 0) there ∙ b.row (k - n) (omega arith) ∙ same (k - n) ∙ ap f back
 
 -- the words in front of a row, and those behind it
-pub row-front : {old new : List ℕ} {at n : ℕ} {f : ℕ → ℕ} → Row old new at n f → (k : ℕ) → k ≤ at → take k new ≡ take k old
-row-front {old} {new} r k l =
+pub row_front : {old new : List ℕ} {at n : ℕ} {f : ℕ → ℕ} → Row old new at n f → (k : ℕ) → k ≤ at → take k new ≡ take k old
+row_front {old} {new} r k l =
     ext_get_or 0 (take k new) (take k old) (length-take k new ∙ ap (min k) r.size ∙ sym (length-take k old))
     (λ i below. let less : i < k = omega (arith, length-take k new) in get_or-take k new i 0 less ∙ r.below i (omega arith)
     ∙ sym (get_or-take k old i 0 less))

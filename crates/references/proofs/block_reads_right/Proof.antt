@@ -5,16 +5,16 @@ use native.Mathlib.Omega.{arith}
 use native.Mathlib.Nat.{add-zero}
 use lib.ListN.{drop}
 use Rattle.format.specs.References as format
-use Rattle.fields.specs.ByNumber.{block_of, instr-of}
-use Rattle.references.specs.laws.Walks.{reads-walk}
-use Rattle.references.specs.laws.Rounds.{Round, round-end, call-passed, call-refused}
+use Rattle.fields.specs.ByNumber.{block_of, instr_of}
+use Rattle.references.specs.laws.Walks.{reads_walk}
+use Rattle.references.specs.laws.Rounds.{Round, round_end, call_passed, call_refused}
 use Rattle.references.proofs.block_reads_right.Statement.{statement}
 use Rattle.references.proofs.block_reads_right.Tie as tie
 
 abbrev invariant-loop : tie.invariant-loop
 invariant-loop w r b before n i₀ i =
-    Round w (λ g k. format.first-refusal (format.named-right g r (before + k)) (instr-of g r b k).reads)
-    (λ g. format.reads-right g r before (block_of g r b)) n i
+    Round w (λ g k. format.first_refusal (format.named_right g r (before + k)) (instr_of g r b k).reads)
+    (λ g. format.reads_right g r before (block_of g r b)) n i
 
 abbrev decreases-loop : tie.decreases-loop
 decreases-loop w r b before n i₀ i = n - i
@@ -22,13 +22,13 @@ decreases-loop w r b before n i₀ i = n - i
 block-length-requires : tie.Need-block-length-requires invariant-loop decreases-loop
 block-length-requires c κs = search rules
 
-loop-holds : tie.Need-loop-init invariant-loop decreases-loop
-loop-holds c =
+loop_holds : tie.Need-loop-init invariant-loop decreases-loop
+loop_holds c =
     let a = c.before.args in
     record {
       bound = omega arith;
-      left = λ g k. format.reads-right g a.r (a.before + k) (drop k (block_of g a.r a.b));
-      walk = λ g s. reads-walk g a.r a.before (block_of g a.r a.b) (c.block-length.ensures g s);
+      left = λ g k. format.reads_right g a.r (a.before + k) (drop k (block_of g a.r a.b));
+      walk = λ g s. reads_walk g a.r a.before (block_of g a.r a.b) (c.block_length.ensures g s);
       rest = λ g s. rw (add-zero a.before);
     }
 
@@ -47,26 +47,26 @@ enum-known-c c = search rules
 returns : tie.Need-returns invariant-loop decreases-loop
 returns c =
     let turn = c.before.before.before.before in
-    call-refused turn.before.loop.invariant turn.loop-test.true c.before.before.before.instruction-reads-right.ensures
+    call_refused turn.before.loop.invariant turn.loop-test.true c.before.before.before.instruction-reads-right.ensures
     c.before.c.given.1
 
 enum_told : tie.Need-enum-told invariant-loop decreases-loop
 enum_told c = search rules
 
-add-i : tie.Need-overflow-add-i invariant-loop decreases-loop
-add-i c = search rules
+add_i : tie.Need-overflow-add-i invariant-loop decreases-loop
+add_i c = search rules
 
-loop-less : tie.Need-loop-smaller invariant-loop decreases-loop
-loop-less c = search rules
+loop_less : tie.Need-loop-smaller invariant-loop decreases-loop
+loop_less c = search rules
 
-loop-again : tie.Need-loop-preserved invariant-loop decreases-loop
-loop-again c =
+loop_again : tie.Need-loop-preserved invariant-loop decreases-loop
+loop_again c =
     let turn = c.before.before.before in
-    call-passed turn.before.loop.invariant turn.loop-test.true c.before.before.instruction-reads-right.ensures
+    call_passed turn.before.loop.invariant turn.loop-test.true c.before.before.instruction-reads-right.ensures
     c.enum_told.given.1
 
-returns-2 : tie.Need-returns-2 invariant-loop decreases-loop
-returns-2 c = round-end c.before.loop.invariant c.loop-test.false
+returns_2 : tie.Need-returns-2 invariant-loop decreases-loop
+returns_2 c = round_end c.before.loop.invariant c.loop-test.false
 
 pub block-reads-right-spec : {M : Type 1} → statement M
 block-reads-right-spec =
@@ -75,14 +75,14 @@ block-reads-right-spec =
     invariant-loop
     decreases-loop
     block-length-requires
-    loop-holds
+    loop_holds
     cast-instruction-reads-right
     add-instruction-reads-right
     instruction-reads-right-requires
     enum-known-c
     returns
     enum_told
-    add-i
-    loop-less
-    loop-again
-    returns-2)
+    add_i
+    loop_less
+    loop_again
+    returns_2)

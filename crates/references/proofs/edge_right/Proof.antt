@@ -13,9 +13,9 @@ returns c g s = picked _ _ (sym (c.before.target-again.ensures g s) ∙ c.if1.tr
 passed-right-requires : tie.Need-passed-right-requires
 passed-right-requires c κs = search rules
 
-returns-2 : tie.Need-returns-2
-returns-2 c g s = c.passed-right.ensures g s ∙ passed_over _ _ (sym (c.before.before.target-again.ensures g s) ∙ c.before.if1.false)
+returns_2 : tie.Need-returns-2
+returns_2 c g s = c.passed_right.ensures g s ∙ passed_over _ _ (sym (c.before.before.target-again.ensures g s) ∙ c.before.if1.false)
 
 pub edge-right-spec : {M : Type 1} → statement M
 edge-right-spec =
-    tie.close (tie.spec target-again-requires returns passed-right-requires returns-2)
+    tie.close (tie.spec target-again-requires returns passed-right-requires returns_2)

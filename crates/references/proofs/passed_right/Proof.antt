@@ -8,22 +8,22 @@ use Rattle.meaning.specs.Graph.{no_value, region}
 use Rattle.format.specs.References as format
 use Rattle.fields.specs.ByNumber.{edge_of}
 use Rattle.references.specs.Checks.{typed}
-use Rattle.references.specs.laws.Walks.{types-walk}
-use Rattle.references.specs.laws.Steps.{edge-differs, edge-agrees}
-use Rattle.references.specs.laws.Rounds.{Round, round-end, call-passed, call-refused}
+use Rattle.references.specs.laws.Walks.{types_walk}
+use Rattle.references.specs.laws.Steps.{edge_differs, edge_agrees}
+use Rattle.references.specs.laws.Rounds.{Round, round_end, call_passed, call_refused}
 use Rattle.references.proofs.passed_right.Statement.{statement}
 use Rattle.references.proofs.passed_right.Tie as tie
 
 abbrev invariant-loop : tie.invariant-loop
 invariant-loop w r j t n k₀ k =
     Round w (λ g k. typed g r (get_or (region g t).inputs k 0) (get_or (edge_of g r j).inputs k no_value))
-    (λ g. format.edge-right g r (edge_of g r j)) n k
+    (λ g. format.edge_right g r (edge_of g r j)) n k
 
 abbrev decreases-loop : tie.decreases-loop
 decreases-loop w r j t n k₀ k = n - k
 
-target-requires : tie.Need-target-requires invariant-loop decreases-loop
-target-requires c κs = search rules
+target_requires : tie.Need-target-requires invariant-loop decreases-loop
+target_requires c κs = search rules
 
 passed-count-requires : tie.Need-passed-count-requires invariant-loop decreases-loop
 passed-count-requires c κs = search rules
@@ -36,24 +36,24 @@ returns c g s =
     let start = c.before.before.before.before in
     let a = start.args in
     let counts = c.before.before in
-    edge-differs g a.r (edge_of g a.r a.j) (counts.before.target.ensures g s) (counts.passed-count.ensures g s)
-    (c.before.input-count.ensures g s) c.if1.true
+    edge_differs g a.r (edge_of g a.r a.j) (counts.before.target.ensures g s) (counts.passed-count.ensures g s)
+    (c.before.input_count.ensures g s) c.if1.true
 
-loop-holds : tie.Need-loop-init invariant-loop decreases-loop
-loop-holds c =
+loop_holds : tie.Need-loop-init invariant-loop decreases-loop
+loop_holds c =
     let a = c.before.before.before.before.args in
     let counts = c.before.before in
     let target = counts.before.target in
     record {
       bound = omega arith;
-      left = λ g k. format.types-right g a.r (drop k (region g target.result).inputs) (drop k (edge_of g a.r a.j).inputs);
+      left = λ g k. format.types_right g a.r (drop k (region g target.result).inputs) (drop k (edge_of g a.r a.j).inputs);
       walk = λ g s.
-          let types = c.if1.false ∙ c.before.input-count.ensures g s in
-          types-walk g a.r (region g target.result).inputs (edge_of g a.r a.j).inputs types
+          let types = c.if1.false ∙ c.before.input_count.ensures g s in
+          types_walk g a.r (region g target.result).inputs (edge_of g a.r a.j).inputs types
           (counts.passed-count.ensures g s);
       rest = λ g s.
-          edge-agrees g a.r (edge_of g a.r a.j) (target.ensures g s) (counts.passed-count.ensures g s)
-          (c.before.input-count.ensures g s) c.if1.false;
+          edge_agrees g a.r (edge_of g a.r a.j) (target.ensures g s) (counts.passed-count.ensures g s)
+          (c.before.input_count.ensures g s) c.if1.false;
     }
 
 input-type-requires : tie.Need-input-type-requires invariant-loop decreases-loop
@@ -68,12 +68,12 @@ named-of-type-requires c κs = search rules
 enum-known-c : tie.Need-enum-known-c invariant-loop decreases-loop
 enum-known-c c = search rules
 
-returns-2 : tie.Need-returns-2 invariant-loop decreases-loop
-returns-2 c =
+returns_2 : tie.Need-returns-2 invariant-loop decreases-loop
+returns_2 c =
     let at-passed = c.before.before.before.before in
     let at_before = at-passed.before in
     let turn = at_before.before in
-    call-refused turn.before.loop.invariant turn.loop-test.true
+    call_refused turn.before.loop.invariant turn.loop-test.true
     (λ g s. c.before.before.before.named-of-type.ensures g s ∙ rw (at_before.input-type.ensures g s, at-passed.passed.ensures g s))
     c.before.c.given.1
 
@@ -83,20 +83,20 @@ enum_told c = search rules
 add-k : tie.Need-overflow-add-k invariant-loop decreases-loop
 add-k c = search rules
 
-loop-less : tie.Need-loop-smaller invariant-loop decreases-loop
-loop-less c = search rules
+loop_less : tie.Need-loop-smaller invariant-loop decreases-loop
+loop_less c = search rules
 
-loop-again : tie.Need-loop-preserved invariant-loop decreases-loop
-loop-again c =
+loop_again : tie.Need-loop-preserved invariant-loop decreases-loop
+loop_again c =
     let at_before = c.before.before.before.before in
     let turn = at_before.before in
-    call-passed turn.before.loop.invariant turn.loop-test.true
+    call_passed turn.before.loop.invariant turn.loop-test.true
     (λ g s. c.before.before.named-of-type.ensures g s
     ∙ rw (at_before.input-type.ensures g s, c.before.before.before.passed.ensures g s))
     c.enum_told.given.1
 
-returns-3 : tie.Need-returns-3 invariant-loop decreases-loop
-returns-3 c = round-end c.before.loop.invariant c.loop-test.false
+returns_3 : tie.Need-returns-3 invariant-loop decreases-loop
+returns_3 c = round_end c.before.loop.invariant c.loop-test.false
 
 pub passed-right-spec : {M : Type 1} → statement M
 passed-right-spec =
@@ -104,18 +104,18 @@ passed-right-spec =
     (tie.spec
     invariant-loop
     decreases-loop
-    target-requires
+    target_requires
     passed-count-requires
     input-count-requires
     returns
-    loop-holds
+    loop_holds
     input-type-requires
     passed-requires
     named-of-type-requires
     enum-known-c
-    returns-2
+    returns_2
     enum_told
     add-k
-    loop-less
-    loop-again
-    returns-3)
+    loop_less
+    loop_again
+    returns_3)

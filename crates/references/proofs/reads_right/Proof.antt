@@ -9,12 +9,12 @@ use Rattle.meaning.specs.Graph.{region}
 use Rattle.format.specs.References as format
 use Rattle.record.specs.Stands.{OfRecord}
 use Rattle.store.specs.Loaded.{answered}
-use Rattle.references.specs.laws.Steps.{block-passes, block-stops, blocks_end}
+use Rattle.references.specs.laws.Steps.{block_passes, block_stops, blocks_end}
 
 abbrev invariant-loop : tie.invariant-loop
 invariant-loop w r n before₀ b₀ before b =
-    (b ≤ n) × (before ≤ 65535 * b) × OfRecord w (λ g. format.reads-right g r before (format.instructions (drop b (region g r).blocks))
-    ≡ format.reads-right g r 0
+    (b ≤ n) × (before ≤ 65535 * b) × OfRecord w (λ g. format.reads_right g r before (format.instructions (drop b (region g r).blocks))
+    ≡ format.reads_right g r 0
     (format.instructions (region g r).blocks))
 
 abbrev decreases-loop : tie.decreases-loop
@@ -23,11 +23,11 @@ decreases-loop w r n before₀ b₀ before b = n - b
 block-count-requires : tie.Need-block-count-requires invariant-loop decreases-loop
 block-count-requires c κs = search rules
 
-loop-holds : tie.Need-loop-init invariant-loop decreases-loop
-loop-holds c = (omega arith, omega arith, λ g s. refl)
+loop_holds : tie.Need-loop-init invariant-loop decreases-loop
+loop_holds c = (omega arith, omega arith, λ g s. refl)
 
 block-reads-right-requires : tie.Need-block-reads-right-requires invariant-loop decreases-loop
-block-reads-right-requires c κs = omega (arith, c.before.before.block-count.type-inv)
+block-reads-right-requires c κs = omega (arith, c.before.before.block_count.type-inv)
 
 enum-known-c : tie.Need-enum-known-c invariant-loop decreases-loop
 enum-known-c c = search rules
@@ -38,7 +38,7 @@ returns c g s =
     let at-loop = turn.before in
     let at-block-count = at-loop.before in
     let start = at-block-count.before in
-    block-stops g _ (region g start.args.r).blocks (at-block-count.block-count.ensures g s) _ _ _ turn.loop-test.true
+    block_stops g _ (region g start.args.r).blocks (at-block-count.block_count.ensures g s) _ _ _ turn.loop-test.true
     (at-loop.loop.invariant.2 g s)
     (sym (ap answered c.before.c.given.1) ∙ c.before.before.before.block-reads-right.ensures g s)
 
@@ -57,29 +57,29 @@ add-before c = search rules
 add-b : tie.Need-overflow-add-b invariant-loop decreases-loop
 add-b c = search rules
 
-loop-less : tie.Need-loop-smaller invariant-loop decreases-loop
-loop-less c = search rules
+loop_less : tie.Need-loop-smaller invariant-loop decreases-loop
+loop_less c = search rules
 
-loop-again : tie.Need-loop-preserved invariant-loop decreases-loop
-loop-again c =
+loop_again : tie.Need-loop-preserved invariant-loop decreases-loop
+loop_again c =
     let at-block-reads-right = c.before.before.before in
     let at-loop-test = at-block-reads-right.before in
     let at-loop = at-loop-test.before in
     let at-block-count = at-loop.before in
     let at-args = at-block-count.before in (
       omega arith,
-      omega (arith, c.block-length.type-inv),
+      omega (arith, c.block_length.type-inv),
       λ g s.
-          rw (c.block-length.ensures g s)
-          (block-passes g _ (region g at-args.args.r).blocks
-          (at-block-count.block-count.ensures g s) _ _ _
+          rw (c.block_length.ensures g s)
+          (block_passes g _ (region g at-args.args.r).blocks
+          (at-block-count.block_count.ensures g s) _ _ _
           at-loop-test.loop-test.true (at-loop.loop.invariant.2 g s)
           (sym (ap answered c.before.enum_told.given.1) ∙ at-block-reads-right.block-reads-right.ensures g s)),
     )
 
-returns-2 : tie.Need-returns-2 invariant-loop decreases-loop
-returns-2 c g s =
-    blocks_end g _ (region g c.before.before.before.args.r).blocks (c.before.before.block-count.ensures g s) _ _ _
+returns_2 : tie.Need-returns-2 invariant-loop decreases-loop
+returns_2 c g s =
+    blocks_end g _ (region g c.before.before.before.args.r).blocks (c.before.before.block_count.ensures g s) _ _ _
     c.loop-test.false (c.before.loop.invariant.2 g s)
 
 pub reads-right-spec : {M : Type 1} → statement M
@@ -89,7 +89,7 @@ reads-right-spec =
     invariant-loop
     decreases-loop
     block-count-requires
-    loop-holds
+    loop_holds
     block-reads-right-requires
     enum-known-c
     returns
@@ -98,6 +98,6 @@ reads-right-spec =
     cast-before
     add-before
     add-b
-    loop-less
-    loop-again
-    returns-2)
+    loop_less
+    loop_again
+    returns_2)

@@ -6,18 +6,18 @@ use mathlib.Core.Path.{◌∙◌}
 use lib.ListN.{get_or, drop}
 use Rattle.meaning.specs.Graph.{no_value}
 use Rattle.format.specs.References as format
-use Rattle.fields.specs.ByNumber.{end-values}
+use Rattle.fields.specs.ByNumber.{end_values}
 use Rattle.references.specs.Checks.{typed}
-use Rattle.references.specs.laws.Walks.{types-walk}
-use Rattle.references.specs.laws.Steps.{sizes-differ, sizes-agree, return-count, return-type}
-use Rattle.references.specs.laws.Rounds.{Round, round-end, call-passed, call-refused}
+use Rattle.references.specs.laws.Walks.{types_walk}
+use Rattle.references.specs.laws.Steps.{sizes_differ, sizes_agree, return_count, return_type}
+use Rattle.references.specs.laws.Rounds.{Round, round_end, call_passed, call_refused}
 use Rattle.references.proofs.returned_right.Statement.{statement}
 use Rattle.references.proofs.returned_right.Tie as tie
 
 abbrev invariant-loop : tie.invariant-loop
 invariant-loop w r q n k₀ k =
-    Round w (λ g k. typed g r (get_or (format.return-types g) k 0) (get_or (end-values g r) k no_value))
-    (λ g. format.passed-right g r (format.return-types g) (end-values g r)) n k
+    Round w (λ g k. typed g r (get_or (format.return_types g) k 0) (get_or (end_values g r) k no_value))
+    (λ g. format.passed_right g r (format.return_types g) (end_values g r)) n k
 
 abbrev decreases-loop : tie.decreases-loop
 decreases-loop w r q n k₀ k = n - k
@@ -34,23 +34,23 @@ value-count-requires-2 c κs = search rules
 returns : tie.Need-returns invariant-loop decreases-loop
 returns c g s =
     let counts = c.before.before in
-    let types = return-count g (counts.before.first-return.ensures g s) (c.before.value-count2.ensures g s) in
-    sizes-differ g _ (format.return-types g) _ (counts.value-count.ensures g s) types c.if1.true
+    let types = return_count g (counts.before.first_return.ensures g s) (c.before.value-count2.ensures g s) in
+    sizes_differ g _ (format.return_types g) _ (counts.value-count.ensures g s) types c.if1.true
 
-loop-holds : tie.Need-loop-init invariant-loop decreases-loop
-loop-holds c =
+loop_holds : tie.Need-loop-init invariant-loop decreases-loop
+loop_holds c =
     let r = c.before.before.before.before.args.r in
     let counts = c.before.before in
-    let first = counts.before.first-return in
+    let first = counts.before.first_return in
     record {
       bound = omega arith;
-      left = λ g k. format.types-right g r (drop k (format.return-types g)) (drop k (end-values g r));
+      left = λ g k. format.types_right g r (drop k (format.return_types g)) (drop k (end_values g r));
       walk = λ g s.
-          let types = return-count g (first.ensures g s) (c.before.value-count2.ensures g s) in
-          types-walk g r (format.return-types g) (end-values g r) (c.if1.false ∙ types) (counts.value-count.ensures g s);
+          let types = return_count g (first.ensures g s) (c.before.value-count2.ensures g s) in
+          types_walk g r (format.return_types g) (end_values g r) (c.if1.false ∙ types) (counts.value-count.ensures g s);
       rest = λ g s.
-          let types = return-count g (first.ensures g s) (c.before.value-count2.ensures g s) in
-          sizes-agree g _ (format.return-types g) _ (counts.value-count.ensures g s) types c.if1.false;
+          let types = return_count g (first.ensures g s) (c.before.value-count2.ensures g s) in
+          sizes_agree g _ (format.return_types g) _ (counts.value-count.ensures g s) types c.if1.false;
     }
 
 return-type-requires : tie.Need-return-type-requires invariant-loop decreases-loop
@@ -65,15 +65,15 @@ named-of-type-requires c κs = search rules
 enum-known-c : tie.Need-enum-known-c invariant-loop decreases-loop
 enum-known-c c = search rules
 
-returns-2 : tie.Need-returns-2 invariant-loop decreases-loop
-returns-2 c =
+returns_2 : tie.Need-returns-2 invariant-loop decreases-loop
+returns_2 c =
     let at_value = c.before.before.before.before in
     let at_before = at_value.before in
     let turn = at_before.before in
-    let first = turn.before.before.before.before.before.first-return in
-    call-refused turn.before.loop.invariant turn.loop-test.true
+    let first = turn.before.before.before.before.before.first_return in
+    call_refused turn.before.loop.invariant turn.loop-test.true
     (λ g s. c.before.before.before.named-of-type.ensures g s
-    ∙ rw (at_before.return-type.ensures g s ∙ return-type g _ (first.ensures g s), at_value.value.ensures g s))
+    ∙ rw (at_before.return_type.ensures g s ∙ return_type g _ (first.ensures g s), at_value.value.ensures g s))
     c.before.c.given.1
 
 enum_told : tie.Need-enum-told invariant-loop decreases-loop
@@ -82,21 +82,21 @@ enum_told c = search rules
 add-k : tie.Need-overflow-add-k invariant-loop decreases-loop
 add-k c = search rules
 
-loop-less : tie.Need-loop-smaller invariant-loop decreases-loop
-loop-less c = search rules
+loop_less : tie.Need-loop-smaller invariant-loop decreases-loop
+loop_less c = search rules
 
-loop-again : tie.Need-loop-preserved invariant-loop decreases-loop
-loop-again c =
+loop_again : tie.Need-loop-preserved invariant-loop decreases-loop
+loop_again c =
     let at_before = c.before.before.before.before in
     let turn = at_before.before in
-    let first = turn.before.before.before.before.before.first-return in
-    call-passed turn.before.loop.invariant turn.loop-test.true
+    let first = turn.before.before.before.before.before.first_return in
+    call_passed turn.before.loop.invariant turn.loop-test.true
     (λ g s. c.before.before.named-of-type.ensures g s
-    ∙ rw (at_before.return-type.ensures g s ∙ return-type g _ (first.ensures g s), c.before.before.before.value.ensures g s))
+    ∙ rw (at_before.return_type.ensures g s ∙ return_type g _ (first.ensures g s), c.before.before.before.value.ensures g s))
     c.enum_told.given.1
 
-returns-3 : tie.Need-returns-3 invariant-loop decreases-loop
-returns-3 c = round-end c.before.loop.invariant c.loop-test.false
+returns_3 : tie.Need-returns-3 invariant-loop decreases-loop
+returns_3 c = round_end c.before.loop.invariant c.loop-test.false
 
 pub returned-right-spec : {M : Type 1} → statement M
 returned-right-spec =
@@ -108,14 +108,14 @@ returned-right-spec =
     value-count-requires
     value-count-requires-2
     returns
-    loop-holds
+    loop_holds
     return-type-requires
     value-requires
     named-of-type-requires
     enum-known-c
-    returns-2
+    returns_2
     enum_told
     add-k
-    loop-less
-    loop-again
-    returns-3)
+    loop_less
+    loop_again
+    returns_3)

@@ -3,9 +3,9 @@ use Prim.Native.Nat.{◌≤◌}
 use native.Mathlib.Omega.{arith}
 use lib.ListN.{length, take}
 use lib.Seq.{length-take-le}
-use Rattle.vectors.proofs.Laws.{behind-within, parted}
-use Rattle.replay.specs.Agrees.{answer-too-long, kept_whole}
-use Rattle.replay_sheets.proofs.Nested.{answer-within}
+use Rattle.vectors.proofs.Laws.{behind_within, parted}
+use Rattle.replay.specs.Agrees.{answer_too_long, kept_whole}
+use Rattle.replay_sheets.proofs.Nested.{answer_within}
 use borrow.Author.Rules.{rules}
 use Rattle.replay.proofs.agrees.Statement.{statement}
 use Rattle.replay.proofs.agrees.Tie as tie
@@ -14,7 +14,7 @@ returns : tie.Need-returns
 returns c =
     let v = take c.before.before.args.size c.before.before.args.text.now in
     let size : length v ≡ c.before.before.args.size = length-take-le _ _ c.before.before.requires in
-    answer-too-long v (omega arith)
+    answer_too_long v (omega arith)
 
 slice-aggregate-vector : tie.Need-slice-aggregate-vector
 slice-aggregate-vector c = sym (length-take-le _ _ c.before.before.before.requires)
@@ -23,12 +23,12 @@ behind-requires : tie.Need-behind-requires
 behind-requires c κs = search rules
 
 sub-rest : tie.Need-overflow-sub-rest
-sub-rest c = rw c.behind.ensures (behind-within _ _)
+sub-rest c = rw c.behind.ensures (behind_within _ _)
 
 part-rest-start : tie.Need-slice-bounds-rest-start
 part-rest-start c =
     let start = c.before.before.before.before in
-    omega (arith, c.behind.ensures, behind-within 32 (take start.args.size start.args.text.now))
+    omega (arith, c.behind.ensures, behind_within 32 (take start.args.size start.args.text.now))
 
 part-rest-end : tie.Need-slice-bounds-rest-end
 part-rest-end c = search rules
@@ -78,10 +78,10 @@ is-nested-requires c κs =
     let p = parted v at-behind.behind.ensures at-behind2.behind2.ensures in
     let decoded = at-decode.decode.ensures in
     let within : at-decode.decode.result ≤ length at-decode.decode.new.1.0 = omega arith in
-    (within, (omega (arith, ap length p.answer, answer-within v), search rules))
+    (within, (omega (arith, ap length p.answer, answer_within v), search rules))
 
-returns-2 : tie.Need-returns-2
-returns-2 c =
+returns_2 : tie.Need-returns-2
+returns_2 c =
     let at-if = c.before.before.before.before.before.before in
     let at-of-sheet = c.before.before.before.before.before.before.before in
     let at-decode = at-of-sheet.before in
@@ -91,8 +91,8 @@ returns-2 c =
     let v = take start.args.size start.args.text.now in
     let size : length v ≡ start.args.size = length-take-le _ _ start.requires in
     let p = parted v at-behind.behind.ensures at-behind2.behind2.ensures in
-    let kind = sym at-of-sheet.of-sheet.ensures ∙ at-if.if2.true in
-    kept_whole v (omega arith) (at-decode.decode.ensures.bytes ∙ p.store) p.answer kind c.is-nested.ensures
+    let kind = sym at-of-sheet.of_sheet.ensures ∙ at-if.if2.true in
+    kept_whole v (omega arith) (at-decode.decode.ensures.bytes ∙ p.store) p.answer kind c.is_nested.ensures
 
 sub-is-shown : tie.Need-overflow-sub-is-shown
 sub-is-shown c =
@@ -112,8 +112,8 @@ part-is-shown-end c = search rules
 is-shown-requires : tie.Need-is-shown-requires
 is-shown-requires c κs = search rules
 
-returns-3 : tie.Need-returns-3
-returns-3 c =
+returns_3 : tie.Need-returns-3
+returns_3 c =
     let at-if = c.before.before.before.before.before.before in
     let at-of-sheet = c.before.before.before.before.before.before.before in
     let at-decode = at-of-sheet.before in
@@ -123,8 +123,8 @@ returns-3 c =
     let v = take start.args.size start.args.text.now in
     let size : length v ≡ start.args.size = length-take-le _ _ start.requires in
     let p = parted v at-behind.behind.ensures at-behind2.behind2.ensures in
-    let kind = sym at-of-sheet.of-sheet.ensures ∙ at-if.if2.false in
-    kept_whole v (omega arith) (at-decode.decode.ensures.bytes ∙ p.store) p.answer kind c.is-shown.ensures
+    let kind = sym at-of-sheet.of_sheet.ensures ∙ at-if.if2.false in
+    kept_whole v (omega arith) (at-decode.decode.ensures.bytes ∙ p.store) p.answer kind c.is_shown.ensures
 
 pub agrees-spec : {M : Type 1} → statement M
 agrees-spec =
@@ -144,9 +144,9 @@ agrees-spec =
     part-is-nested-start
     part-is-nested-end
     is-nested-requires
-    returns-2
+    returns_2
     sub-is-shown
     part-is-shown-start
     part-is-shown-end
     is-shown-requires
-    returns-3)
+    returns_3)

@@ -23,8 +23,8 @@ returns c =
 keep-requires : tie.Need-keep-requires
 keep-requires c κs = search rules
 
-returns-2 : tie.Need-returns-2
-returns-2 c =
+returns_2 : tie.Need-returns-2
+returns_2 c =
     let at-if1 = c.before.before in
     let at-ends = at-if1.before in
     let start = at-ends.before in
@@ -33,4 +33,4 @@ returns-2 c =
 pub fed-spec : {M : Type 1} → statement M
 fed-spec =
     tie.close
-    (tie.spec ends-requires agrees-requires counted-requires returns keep-requires returns-2)
+    (tie.spec ends-requires agrees-requires counted-requires returns keep-requires returns_2)

@@ -1,8 +1,8 @@
 use mathlib.Core.Path.{sym}
 use native.Mathlib.Omega.{arith}
 use lib.Seq.{length-take-le}
-use Rattle.text_show.specs.laws.Showing.{never-full, shown-front}
-use Rattle.replay_sheets.specs.Compared.{as-shown}
+use Rattle.text_show.specs.laws.Showing.{never_full, shown_front}
+use Rattle.replay_sheets.specs.Compared.{as_shown}
 use borrow.Author.Rules.{rules}
 use Rattle.replay.proofs.is_shown.Statement.{statement}
 use Rattle.replay.proofs.is_shown.Tie as tie
@@ -26,7 +26,7 @@ returns : tie.Need-returns
 returns c =
     let at-show = c.before.before.before.before in
     let start = at-show.before.before.before.before.before.before.before in
-    absurd (never-full at-show.show.ensures (let room = start.requires.1 in omega arith) c.enum_told.given.1)
+    absurd (never_full at-show.show.ensures (let room = start.requires.1 in omega arith) c.enum_told.given.1)
 
 sub_same : tie.Need-overflow-sub-same
 sub_same c = search rules
@@ -39,7 +39,7 @@ part-same-end c =
     let at-written = c.before.before in
     let at-show = at-written.before.before.before.before in
     let start = at-show.before.before.before.before.before.before.before in
-    omega (arith, (shown-front at-show.show.ensures at-written.written.given.1).within)
+    omega (arith, (shown_front at-show.show.ensures at-written.written.given.1).within)
 
 same-requires : tie.Need-same-requires
 same-requires c κs = search rules
@@ -47,13 +47,13 @@ same-requires c κs = search rules
 same-length-2 : tie.Need-same-length-2
 same-length-2 c = search rules
 
-returns-2 : tie.Need-returns-2
-returns-2 c =
+returns_2 : tie.Need-returns-2
+returns_2 c =
     let at-written = c.before.before.before.before in
     let at-show = at-written.before.before.before.before in
     let start = at-show.before.before.before.before.before.before.before in
-    let front = shown-front at-show.show.ensures at-written.written.given.1 in
-    as-shown front c.same.ensures
+    let front = shown_front at-show.show.ensures at-written.written.given.1 in
+    as_shown front c.same.ensures
 
 pub is-shown-spec : {M : Type 1} → statement M
 is-shown-spec =
@@ -70,4 +70,4 @@ is-shown-spec =
     part-same-end
     same-requires
     same-length-2
-    returns-2)
+    returns_2)

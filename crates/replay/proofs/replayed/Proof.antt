@@ -19,8 +19,8 @@ large-buffer-requires c κs = search rules
 start-requires : tie.Need-start-requires invariant-loop decreases-loop
 start-requires c κs = search rules
 
-loop-holds : tie.Need-loop-init invariant-loop decreases-loop
-loop-holds c = (search rules, rw c.start.ensures (omega arith))
+loop_holds : tie.Need-loop-init invariant-loop decreases-loop
+loop_holds c = (search rules, rw c.start.ensures (omega arith))
 
 slice-aggregate-read-full : tie.Need-slice-aggregate-read-full invariant-loop decreases-loop
 slice-aggregate-read-full c = search rules
@@ -40,17 +40,17 @@ slice-aggregate-fed-all c = search rules
 fed-all-requires : tie.Need-fed-all-requires invariant-loop decreases-loop
 fed-all-requires c κs = search rules
 
-sub-left : tie.Need-overflow-sub-left invariant-loop decreases-loop
-sub-left c = search rules
+sub_left : tie.Need-overflow-sub-left invariant-loop decreases-loop
+sub_left c = search rules
 
-loop-less : tie.Need-loop-smaller invariant-loop decreases-loop
-loop-less c = search rules
+loop_less : tie.Need-loop-smaller invariant-loop decreases-loop
+loop_less c = search rules
 
-loop-again : tie.Need-loop-preserved invariant-loop decreases-loop
-loop-again c = search rules
+loop_again : tie.Need-loop-preserved invariant-loop decreases-loop
+loop_again c = search rules
 
-returns-2 : tie.Need-returns-2 invariant-loop decreases-loop
-returns-2 c = search rules
+returns_2 : tie.Need-returns-2 invariant-loop decreases-loop
+returns_2 c = search rules
 
 pub replayed-spec : {M : Type 1} → statement M
 replayed-spec =
@@ -60,14 +60,14 @@ replayed-spec =
     decreases-loop
     large-buffer-requires
     start-requires
-    loop-holds
+    loop_holds
     slice-aggregate-read-full
     read-full-requires
     returns
     array-share-prefix-chunk
     slice-aggregate-fed-all
     fed-all-requires
-    sub-left
-    loop-less
-    loop-again
-    returns-2)
+    sub_left
+    loop_less
+    loop_again
+    returns_2)

@@ -6,21 +6,21 @@ use Rattle.meaning.specs.Graph.{Graph, Value}
 use Rattle.meaning.specs.Runs.{Node, block, select, loop, exit, Nodes, ⟨⟩, ◌▸◌, Cases, ∅, case}
 use Rattle.nesting.specs.Nesting.{Nested, Piece, Outcome, untouched, whole, closed, leftover}
 use Rattle.nesting.specs.Sheet as sheet
-use Rattle.nesting.specs.SheetNumbers.{lead-region, lead_block, lead-exit}
-use Rattle.sheet_words.specs.Parts.{most, region-words, select-words, loop-words, node-words, nodes-words, cases-words}
-use Rattle.sheet_nodes.specs.Whole.{piece-words, defer-words, nested-lines, head-words, nested-words}
-use Rattle.sheet.specs.laws.SheetLines.{same_count, sheet-lines}
+use Rattle.nesting.specs.SheetNumbers.{lead_region, lead_block, lead_exit}
+use Rattle.sheet_words.specs.Parts.{most, region_words, select_words, loop_words, node_words, nodes_words, cases_words}
+use Rattle.sheet_nodes.specs.Whole.{piece_words, defer_words, nested_lines, head_words, nested_words}
+use Rattle.sheet.specs.laws.SheetLines.{same_count, sheet_lines}
 
 -- a is as long as b, and is b where b has no more words than a word can say.
 record SameIfShort (a b : List ℕ) : Type 0 where
   pub long : length a ≡ length b
   pub same : length b ≤ 4294967295 → a ≡ b
 
-short-same : (a : List ℕ) → SameIfShort a a
-short-same a = record { long = refl; same = λ h. refl }
+short_same : (a : List ℕ) → SameIfShort a a
+short_same a = record { long = refl; same = λ h. refl }
 
-short-then : {a b c d : List ℕ} → SameIfShort a b → SameIfShort c d → SameIfShort (a ++ c) (b ++ d)
-short-then {a} {b} {c} {d} p q =
+short_then : {a b c d : List ℕ} → SameIfShort a b → SameIfShort c d → SameIfShort (a ++ c) (b ++ d)
+short_then {a} {b} {c} {d} p q =
     let n = length-append a c in
     let m = length-append b d in
     let i = p.long in
@@ -31,71 +31,71 @@ short-then {a} {b} {c} {d} p q =
     }
 
 -- The count in front of as many words.
-short-count : (xs : List ℕ) → SameIfShort (most (length xs) ∷ xs) (length xs ∷ xs)
-short-count xs = record { long = refl; same = λ h. rw (le-leb (length xs) 4294967295 (omega arith)) }
+short_count : (xs : List ℕ) → SameIfShort (most (length xs) ∷ xs) (length xs ∷ xs)
+short_count xs = record { long = refl; same = λ h. rw (le-leb (length xs) 4294967295 (omega arith)) }
 
 module _ (nodes : List ℕ) where
-  region-held : (r : ℕ) (ts : List ℕ) (ks : Nodes) (vs : List Value)
-      → SameIfShort (region-words most nodes r ts ks vs) (region-words same_count nodes r ts ks vs)
-  region-held r ts ks vs =
-      short-then (short-then (short-same (lead-region ∷ r ∷ length ts ∷ ts)) (short-count (sheet.kids ks)))
-      (short-same (sheet.values nodes vs).words)
+  region_held : (r : ℕ) (ts : List ℕ) (ks : Nodes) (vs : List Value)
+      → SameIfShort (region_words most nodes r ts ks vs) (region_words same_count nodes r ts ks vs)
+  region_held r ts ks vs =
+      short_then (short_then (short_same (lead_region ∷ r ∷ length ts ∷ ts)) (short_count (sheet.kids ks)))
+      (short_same (sheet.values nodes vs).words)
 
   mutual
-    unfolding node-words
+    unfolding node_words
 
-    node-held : (k : Node) → SameIfShort (node-words most nodes k) (node-words same_count nodes k)
-    node-held (block n r k is) = short-same (lead_block ∷ n ∷ (sheet.list (sheet.items nodes r k is)).words)
-    node-held (select x cs) = short-then (short-same (select-words most nodes x cs)) (cases-held cs)
-    node-held (loop x ks) =
-        short-then (short-then (short-same (loop-words most nodes x)) (region-held x.body x.types ks x.outputs)) (nodes-held ks)
-    node-held (exit n op vs) = short-same (lead-exit ∷ n ∷ op ∷ (sheet.values nodes vs).words)
+    node_held : (k : Node) → SameIfShort (node_words most nodes k) (node_words same_count nodes k)
+    node_held (block n r k is) = short_same (lead_block ∷ n ∷ (sheet.list (sheet.items nodes r k is)).words)
+    node_held (select x cs) = short_then (short_same (select_words most nodes x cs)) (cases_held cs)
+    node_held (loop x ks) =
+        short_then (short_then (short_same (loop_words most nodes x)) (region_held x.body x.types ks x.outputs)) (nodes_held ks)
+    node_held (exit n op vs) = short_same (lead_exit ∷ n ∷ op ∷ (sheet.values nodes vs).words)
 
-    nodes-held : (ks : Nodes) → SameIfShort (nodes-words most nodes ks) (nodes-words same_count nodes ks)
-    nodes-held ⟨⟩ = short-same []
-    nodes-held (k ▸ ks) = short-then (node-held k) (nodes-held ks)
+    nodes_held : (ks : Nodes) → SameIfShort (nodes_words most nodes ks) (nodes_words same_count nodes ks)
+    nodes_held ⟨⟩ = short_same []
+    nodes_held (k ▸ ks) = short_then (node_held k) (nodes_held ks)
 
-    cases-held : (cs : Cases) → SameIfShort (cases-words most nodes cs) (cases-words same_count nodes cs)
-    cases-held ∅ = short-same []
-    cases-held (case c ks cs) = short-then (short-then (region-held c.region [] ks c.outputs) (nodes-held ks)) (cases-held cs)
+    cases_held : (cs : Cases) → SameIfShort (cases_words most nodes cs) (cases_words same_count nodes cs)
+    cases_held ∅ = short_same []
+    cases_held (case c ks cs) = short_then (short_then (region_held c.region [] ks c.outputs) (nodes_held ks)) (cases_held cs)
 
-  pieces-held : (ps : List Piece) → SameIfShort (concat (map (piece-words most nodes) ps)) (concat (map (piece-words same_count nodes) ps))
-  pieces-held [] = short-same []
-  pieces-held (p ∷ ps) =
-      short-then (short-then (region-held p.region p.inputs p.children p.outputs) (nodes-held p.children)) (pieces-held ps)
+  pieces_held : (ps : List Piece) → SameIfShort (concat (map (piece_words most nodes) ps)) (concat (map (piece_words same_count nodes) ps))
+  pieces_held [] = short_same []
+  pieces_held (p ∷ ps) =
+      short_then (short_then (region_held p.region p.inputs p.children p.outputs) (nodes_held p.children)) (pieces_held ps)
 
-lines-held : (x : Nested) → SameIfShort (nested-lines most x) (nested-lines same_count x)
-unfolding nested-lines
-lines-held x =
-    short-then (pieces-held x.output-nodes (x.entry ∷ x.unclaimed))
-    (short-same (concat (map (λ (p : Piece). concat (map (defer-words x.output-nodes p.region) p.deferred))
+lines_held : (x : Nested) → SameIfShort (nested_lines most x) (nested_lines same_count x)
+unfolding nested_lines
+lines_held x =
+    short_then (pieces_held x.output_nodes (x.entry ∷ x.unclaimed))
+    (short_same (concat (map (λ (p : Piece). concat (map (defer_words x.output_nodes p.region) p.deferred))
     (sheet.ascending x.entry x.unclaimed))))
 
-sheet-held : (g : Graph) (x : Nested) → SameIfShort (nested-words most g x) (nested-words same_count g x)
-unfolding nested-words
-sheet-held g x = short-then (short-same (head-words (sheet.sheet-of g x))) (by x.outcome)
+sheet_held : (g : Graph) (x : Nested) → SameIfShort (nested_words most g x) (nested_words same_count g x)
+unfolding nested_words
+sheet_held g x = short_then (short_same (head_words (sheet.sheet_of g x))) (by x.outcome)
   where
     by : (o : Outcome) → SameIfShort (elim o as (λ o. List ℕ) [
       | untouched ↦ []
-      | whole ↦ nested-lines most x
-      | closed ↦ nested-lines most x
-      | leftover ↦ nested-lines most x
+      | whole ↦ nested_lines most x
+      | closed ↦ nested_lines most x
+      | leftover ↦ nested_lines most x
     ]) (elim o as (λ o. List ℕ) [
       | untouched ↦ []
-      | whole ↦ nested-lines same_count x
-      | closed ↦ nested-lines same_count x
-      | leftover ↦ nested-lines same_count x
+      | whole ↦ nested_lines same_count x
+      | closed ↦ nested_lines same_count x
+      | leftover ↦ nested_lines same_count x
     ])
-    by untouched = short-same []
-    by whole = lines-held x
-    by closed = lines-held x
-    by leftover = lines-held x
+    by untouched = short_same []
+    by whole = lines_held x
+    by closed = lines_held x
+    by leftover = lines_held x
 
 -- ---- Of the definition's sheet.
 module _ (g : Graph) (x : Nested) where
-  pub as_long : length (nested-words most g x) ≡ length (sheet.sheet-words (sheet.sheet-of g x))
-  as_long = (sheet-held g x).long ∙ ap length (sheet-lines g x)
+  pub as_long : length (nested_words most g x) ≡ length (sheet.sheet_words (sheet.sheet_of g x))
+  as_long = (sheet_held g x).long ∙ ap length (sheet_lines g x)
 
-  pub same-if-short : length (sheet.sheet-words (sheet.sheet-of g x)) ≤ 4294967295
-      → nested-words most g x ≡ sheet.sheet-words (sheet.sheet-of g x)
-  same-if-short h = (sheet-held g x).same (rw (sheet-lines g x) h) ∙ sheet-lines g x
+  pub same_if_short : length (sheet.sheet_words (sheet.sheet_of g x)) ≤ 4294967295
+      → nested_words most g x ≡ sheet.sheet_words (sheet.sheet_of g x)
+  same_if_short h = (sheet_held g x).same (rw (sheet_lines g x) h) ∙ sheet_lines g x

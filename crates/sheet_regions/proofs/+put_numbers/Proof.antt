@@ -8,16 +8,16 @@ use lib.ListN.{length}
 use borrow.Author.Rules.{rules}
 use borrow.Fn.Kinds.{In}
 use borrow.Fn.PlainCycle.{Measures, is, falls, and}
-use Rattle.state_lists.specs.laws.CellByCellLaws.{named-below, before-below}
+use Rattle.state_lists.specs.laws.CellByCellLaws.{named_below, before_below}
 use Rattle.sheet_regions.specs.Lists.{ListPut}
-use Rattle.sheet_regions.specs.laws.ListsLaws.{list-start, list-inner, list-cell, list_all, list-as}
+use Rattle.sheet_regions.specs.laws.ListsLaws.{list_start, list_inner, list_cell, list_all, list_as}
 use Rattle.sheet_regions.proofs.put_numbers.Reads as reads
 use Rattle.sheet_regions.proofs.put_numbers.Kinds as kinds
 use Rattle.sheet_regions.proofs.+put_numbers.Lts-put_numbers as lts
 use Rattle.sheet_regions.proofs.put_cell_numbers.Reads as put-cell-numbers
-use Rattle.state_lists.proofs.list_before.Reads as list-before
-use Rattle.state_nodes.proofs.cells.cell_tag.Reads as cell-tag
-use Rattle.state_nodes.proofs.cells.join_list.Reads as join-list
+use Rattle.state_lists.proofs.list_before.Reads as list_before
+use Rattle.state_nodes.proofs.cells.cell_tag.Reads as cell_tag
+use Rattle.state_nodes.proofs.cells.join_list.Reads as join_list
 use Rattle.sheet_regions.proofs.+put_numbers.{statement}
 use Rattle.sheet_regions.proofs.+put_numbers.Tie.{close}
 
@@ -33,16 +33,16 @@ below t = and 2 kinds.ps (falls 2 kinds.ps ◌<◌ measure t) reads.Pre
 -- What the functions called ask and ensure, this one at an earlier list.
 abbrev called : ℕ → lts.Claims
 called t = (
-  cell-tag.Asked,
-  cell-tag.Learnt,
-  join-list.Asked,
-  join-list.Learnt,
+  cell_tag.Asked,
+  cell_tag.Learnt,
+  join_list.Asked,
+  join_list.Learnt,
   below t,
   reads.Post,
   put-cell-numbers.Asked,
   put-cell-numbers.Learnt,
-  list-before.Asked,
-  list-before.Learnt,
+  list_before.Asked,
+  list_before.Learnt,
 )
 
 abbrev invariant-loop : lts.invariant-loop
@@ -52,8 +52,8 @@ abbrev decreases-loop : lts.decreases-loop
 decreases-loop w out₀ y₀ h₀ out y h = h.0
 
 module _ (t : ℕ) where
-  loop-holds : lts.Need-loop-init (called t) (at t) reads.Post invariant-loop decreases-loop
-  loop-holds c = (list-start _ _ _ _ (omega arith), omega arith, refl)
+  loop_holds : lts.Need-loop-init (called t) (at t) reads.Post invariant-loop decreases-loop
+  loop_holds c = (list_start _ _ _ _ (omega arith), omega arith, refl)
 
   cell-tag-requires : lts.Need-cell-tag-requires (called t) (at t) reads.Post invariant-loop decreases-loop
   cell-tag-requires c κs = search rules
@@ -68,7 +68,7 @@ module _ (t : ℕ) where
         omega (
           arith,
           at_pre.requires.0,
-          named-below _ c.join-list.ensures
+          named_below _ c.join_list.ensures
               at-loop-test.if1.true,
         ),
         tt,
@@ -80,20 +80,20 @@ module _ (t : ℕ) where
   list-before-requires : lts.Need-list-before-requires (called t) (at t) reads.Post invariant-loop decreases-loop
   list-before-requires c κs = search rules
 
-  loop-less : lts.Need-loop-smaller (called t) (at t) reads.Post invariant-loop decreases-loop
-  loop-less c = before-below _ c.list-before.ensures c.before.before.before.if1.true
+  loop_less : lts.Need-loop-smaller (called t) (at t) reads.Post invariant-loop decreases-loop
+  loop_less c = before_below _ c.list_before.ensures c.before.before.before.if1.true
 
-  loop-again : lts.Need-loop-preserved (called t) (at t) reads.Post invariant-loop decreases-loop
-  loop-again c = (
+  loop_again : lts.Need-loop-preserved (called t) (at t) reads.Post invariant-loop decreases-loop
+  loop_again c = (
     ⊎_elim
-        (λ y. list-as (list-inner _ _ _ c.before.before.before.before.before.loop.invariant.0 c.before.before.before.if1.true
-        c.before.before.cell-tag.ensures y.0.taken y.2.ensures
-        y.3.ensures) c.list-before.ensures y.6 y.7)
-        (λ y. list-as (list-cell _ _ _ c.before.before.before.before.before.loop.invariant.0 c.before.before.before.if1.true
-        c.before.before.cell-tag.ensures y.0.left y.2.ensures)
-        c.list-before.ensures y.5 y.6)
+        (λ y. list_as (list_inner _ _ _ c.before.before.before.before.before.loop.invariant.0 c.before.before.before.if1.true
+        c.before.before.cell_tag.ensures y.0.taken y.2.ensures
+        y.3.ensures) c.list_before.ensures y.6 y.7)
+        (λ y. list_as (list_cell _ _ _ c.before.before.before.before.before.loop.invariant.0 c.before.before.before.if1.true
+        c.before.before.cell_tag.ensures y.0.left y.2.ensures)
+        c.list_before.ensures y.5 y.6)
         c.before.if2.branch,
-    omega (arith, before-below _ c.list-before.ensures c.before.before.before.if1.true),
+    omega (arith, before_below _ c.list_before.ensures c.before.before.before.if1.true),
     ⊎_elim (λ y. search rules) (λ y. search rules) c.before.if2.branch,
   )
 
@@ -105,13 +105,13 @@ module _ (t : ℕ) where
 
 pub +put-numbers-spec : {M : Type 1} → statement M
 +put-numbers-spec = close measure λ t. lts.spec (called t) (at t) reads.Post invariant-loop decreases-loop
-    (loop-holds t)
+    (loop_holds t)
     (cell-tag-requires t)
     (join-list-requires t)
     (put-numbers-requires t)
     (put-cell-numbers-requires t)
     (list-before-requires t)
-    (loop-less t)
-    (loop-again t)
+    (loop_less t)
+    (loop_again t)
     (same_length t)
     (returns t)

@@ -4,7 +4,7 @@ use native.Mathlib.Omega.{arith}
 use borrow.Author.Rules.{rules}
 use lib.ListN.{length}
 use Rattle.sheet_regions.specs.Lists.{BlocksPut}
-use Rattle.sheet_regions.specs.laws.ListsLaws.{blocks-turn, blocks-all}
+use Rattle.sheet_regions.specs.laws.ListsLaws.{blocks_turn, blocks_all}
 use Rattle.sheet_regions.specs.laws.ListsLaws.{blocks_start}
 use Rattle.sheet_regions.proofs.put_block_numbers.Statement.{statement}
 use Rattle.sheet_regions.proofs.put_block_numbers.Tie as tie
@@ -21,10 +21,10 @@ blocks-before-requires c κs = search rules
 block-count-requires : tie.Need-block-count-requires invariant-loop decreases-loop
 block-count-requires c κs = search rules
 
-loop-holds : tie.Need-loop-init invariant-loop decreases-loop
-loop-holds c = (
+loop_holds : tie.Need-loop-init invariant-loop decreases-loop
+loop_holds c = (
   blocks_start c.before.before.before.args.w.now c.before.before.before.args.r
-      c.before.blocks-before.result c.block-count.ensures c.before.before.before.args.out.now
+      c.before.blocks_before.result c.block_count.ensures c.before.before.before.args.out.now
       c.before.before.before.args.x (omega arith),
   omega arith,
   refl,
@@ -42,16 +42,16 @@ add-put-number c = search rules
 put-number-requires : tie.Need-put-number-requires invariant-loop decreases-loop
 put-number-requires c κs = search rules
 
-loop-less : tie.Need-loop-smaller invariant-loop decreases-loop
-loop-less c = search rules
+loop_less : tie.Need-loop-smaller invariant-loop decreases-loop
+loop_less c = search rules
 
-loop-again : tie.Need-loop-preserved invariant-loop decreases-loop
-loop-again c =
+loop_again : tie.Need-loop-preserved invariant-loop decreases-loop
+loop_again c =
     let at-put-number = c.before.before in
     let at-loop-test = at-put-number.before.before in
     let at-loop = at-loop-test.before in
     let at-block-count = at-loop.before in (
-      blocks-turn _ _ _ at-block-count.block-count.ensures _
+      blocks_turn _ _ _ at-block-count.block_count.ensures _
           at-loop.loop.invariant.0 at-loop-test.loop-test.true
           at-loop.loop.invariant.1 at-put-number.put-number.ensures,
       omega arith,
@@ -62,8 +62,8 @@ same_length : tie.Need-same-length invariant-loop decreases-loop
 same_length c = search rules
 
 returns : tie.Need-returns invariant-loop decreases-loop
-returns c = blocks-all _ _ _ c.before.before.block-count.ensures _ c.before.loop.invariant.0 c.loop-test.false
-    c.before.before.before.blocks-before.ensures
+returns c = blocks_all _ _ _ c.before.before.block_count.ensures _ c.before.loop.invariant.0 c.loop-test.false
+    c.before.before.before.blocks_before.ensures
 
 pub put-block-numbers-spec : {M : Type 1} → statement M
 put-block-numbers-spec =
@@ -73,12 +73,12 @@ put-block-numbers-spec =
     decreases-loop
     blocks-before-requires
     block-count-requires
-    loop-holds
+    loop_holds
     sub-b
     cast-put-number
     add-put-number
     put-number-requires
-    loop-less
-    loop-again
+    loop_less
+    loop_again
     same_length
     returns)

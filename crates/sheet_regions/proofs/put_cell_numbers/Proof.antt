@@ -1,4 +1,4 @@
-use Rattle.sheet_regions.specs.laws.ListsLaws.{cell-blocks, cell-one}
+use Rattle.sheet_regions.specs.laws.ListsLaws.{cell_blocks, cell_one}
 use borrow.Author.Rules.{rules}
 use Rattle.sheet_regions.proofs.put_cell_numbers.Statement.{statement}
 use Rattle.sheet_regions.proofs.put_cell_numbers.Tie as tie
@@ -21,8 +21,8 @@ returns c =
     let at-blocks-region = at-put-block-numbers.before in
     let at-if = at-blocks-region.before.before in
     let at-cell-tag = at-if.before in
-    cell-blocks _ _ at-cell-tag.cell-tag.ensures
-    at-if.if1.true at-blocks-region.blocks-region.ensures
+    cell_blocks _ _ at-cell-tag.cell_tag.ensures
+    at-if.if1.true at-blocks-region.blocks_region.ensures
     at-put-block-numbers.put-block-numbers.ensures
 
 cell-node-requires : tie.Need-cell-node-requires
@@ -37,14 +37,14 @@ put-number-requires c κs = search rules
 same-length-2 : tie.Need-same-length-2
 same-length-2 c = search rules
 
-returns-2 : tie.Need-returns-2
-returns-2 c =
+returns_2 : tie.Need-returns-2
+returns_2 c =
     let at-put-number = c.before.before in
     let at-cell-node = at-put-number.before in
     let at-if = at-cell-node.before.before in
     let at-cell-tag = at-if.before in
-    cell-one _ _ at-cell-tag.cell-tag.ensures
-    at-if.if1.false at-cell-node.cell-node.ensures
+    cell_one _ _ at-cell-tag.cell_tag.ensures
+    at-if.if1.false at-cell-node.cell_node.ensures
     at-put-number.put-number.ensures
 
 pub put-cell-numbers-spec : {M : Type 1} → statement M
@@ -60,4 +60,4 @@ put-cell-numbers-spec =
     cast-put-number
     put-number-requires
     same-length-2
-    returns-2)
+    returns_2)

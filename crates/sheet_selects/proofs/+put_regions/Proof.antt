@@ -4,14 +4,14 @@ use native.Mathlib.Omega.{arith}
 use borrow.Author.Rules.{rules}
 use borrow.Fn.Kinds.{In}
 use borrow.Fn.PlainCycle.{Measures, is, falls, and}
-use Rattle.state_lists.specs.laws.CellByCellLaws.{named-below}
-use Rattle.sheet_selects.specs.laws.CaseNumbersLaws.{no-regions, first-region}
+use Rattle.state_lists.specs.laws.CellByCellLaws.{named_below}
+use Rattle.sheet_selects.specs.laws.CaseNumbersLaws.{no_regions, first_region}
 use Rattle.sheet_selects.proofs.put_regions.Reads as reads
 use Rattle.sheet_selects.proofs.put_regions.Kinds as kinds
 use Rattle.sheet_selects.proofs.+put_regions.Lts-put_regions as lts
 use Rattle.sheet_regions.proofs.put_number.Reads as put-number
-use Rattle.state_nodes.proofs.cells.case_region.Reads as case-region
-use Rattle.state_nodes.proofs.cells.cases_after.Reads as cases-after
+use Rattle.state_nodes.proofs.cells.case_region.Reads as case_region
+use Rattle.state_nodes.proofs.cells.cases_after.Reads as cases_after
 use Rattle.sheet_selects.proofs.+put_regions.{statement}
 use Rattle.sheet_selects.proofs.+put_regions.Tie.{close}
 
@@ -27,19 +27,19 @@ below t = and 2 kinds.ps (falls 2 kinds.ps ◌<◌ measure t) reads.Pre
 -- What the functions called ask and ensure, this one at an earlier handle.
 abbrev called : ℕ → lts.Claims
 called t = (
-  cases-after.Asked,
-  cases-after.Learnt,
+  cases_after.Asked,
+  cases_after.Learnt,
   below t,
   reads.Post,
-  case-region.Asked,
-  case-region.Learnt,
+  case_region.Asked,
+  case_region.Learnt,
   put-number.Asked,
   put-number.Learnt,
 )
 
 module _ (t : ℕ) where
   returns : lts.Need-returns (called t) (at t) reads.Post
-  returns c = no-regions _ _ _ c.if1.true (omega arith)
+  returns c = no_regions _ _ _ c.if1.true (omega arith)
 
   cases-after-requires : lts.Need-cases-after-requires (called t) (at t) reads.Post
   cases-after-requires c κs = search rules
@@ -50,8 +50,8 @@ module _ (t : ℕ) where
       arith,
       c.before.before.before.before.before.requires.0,
       c.before.before.if1.false,
-      named-below _
-          c.cases-after.ensures (omega (arith, c.before.before.if1.false)),
+      named_below _
+          c.cases_after.ensures (omega (arith, c.before.before.if1.false)),
     ),
     tt,
   )
@@ -68,16 +68,16 @@ module _ (t : ℕ) where
   same_length : lts.Need-same-length (called t) (at t) reads.Post
   same_length c = search rules
 
-  returns-2 : lts.Need-returns-2 (called t) (at t) reads.Post
-  returns-2 c =
+  returns_2 : lts.Need-returns-2 (called t) (at t) reads.Post
+  returns_2 c =
       let at-put-number = c.before.before in
       let at-case-region = at-put-number.before in
       let at-put-regions = at-case-region.before.before.before.before in
       let at-cases-after = at-put-regions.before in
       let at-if = at-cases-after.before.before in
-      first-region _ at-if.if1.false
-      at-cases-after.cases-after.ensures
-      at-put-regions.put-regions.ensures at-case-region.case-region.ensures
+      first_region _ at-if.if1.false
+      at-cases-after.cases_after.ensures
+      at-put-regions.put-regions.ensures at-case-region.case_region.ensures
       at-put-number.put-number.ensures
 
 pub +put-regions-spec : {M : Type 1} → statement M
@@ -89,4 +89,4 @@ pub +put-regions-spec : {M : Type 1} → statement M
     (cast-put-number t)
     (put-number-requires t)
     (same_length t)
-    (returns-2 t)
+    (returns_2 t)

@@ -1,4 +1,4 @@
-use Rattle.sheet_selects.specs.laws.SelectLinesLaws.{case-line-put}
+use Rattle.sheet_selects.specs.laws.SelectLinesLaws.{case_line_put}
 use borrow.Author.Rules.{rules}
 use Rattle.sheet_selects.proofs.put_case_line.Statement.{statement}
 use Rattle.sheet_selects.proofs.put_case_line.Tie as tie
@@ -24,8 +24,8 @@ returns c =
     let list = line.before.before in
     let region = list.before in
     let outputs = region.before.before.before in
-    case-line-put _ _ _ _
-    outputs.put-case-outputs.ensures region.case-region.ensures list.children-of-case.ensures
+    case_line_put _ _ _ _
+    outputs.put-case-outputs.ensures region.case_region.ensures list.children_of_case.ensures
     line.put-region-line.ensures
 
 pub put-case-line-spec : {M : Type 1} → statement M

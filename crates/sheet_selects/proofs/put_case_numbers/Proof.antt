@@ -1,5 +1,5 @@
 use native.Mathlib.Omega.{arith}
-use Rattle.sheet_selects.specs.laws.CaseNumbersLaws.{case-numbers-put}
+use Rattle.sheet_selects.specs.laws.CaseNumbersLaws.{case_numbers_put}
 use borrow.Author.Rules.{rules}
 use Rattle.sheet_selects.proofs.put_case_numbers.Statement.{statement}
 use Rattle.sheet_selects.proofs.put_case_numbers.Tie as tie
@@ -18,7 +18,7 @@ returns c =
     let at-put = c.before.before in
     let at-put-regions = at-put.before.before.before.before in
     let start = at-put-regions.before.before.before in
-    case-numbers-put _ (omega (arith, start.well-formed.1.1.1.0)) at-put-regions.put-regions.ensures
+    case_numbers_put _ (omega (arith, start.well-formed.1.1.1.0)) at-put-regions.put-regions.ensures
     at-put.put.ensures
 
 pub put-case-numbers-spec : {M : Type 1} → statement M

@@ -4,18 +4,18 @@ use native.Mathlib.Omega.{arith}
 use lib.ListN.{length}
 use borrow.Author.Rules.{rules}
 use Rattle.sheet_words.specs.PutInFront.{Puts}
-use Rattle.sheet_words.specs.laws.Rows.{run, run-start}
+use Rattle.sheet_words.specs.laws.Rows.{run, run_start}
 use Rattle.sheet_words.specs.Parts.{OfState}
-use Rattle.sheet_words.specs.Outputs.{node-times}
-use Rattle.sheet_selects.specs.OwnOutputs.{own, case-value}
-use Rattle.sheet_selects.specs.laws.OwnOutputsLaws.{own_put, other-passed, own-counted, other-not-counted, case-outputs-put}
+use Rattle.sheet_words.specs.Outputs.{node_times}
+use Rattle.sheet_selects.specs.OwnOutputs.{own, case_value}
+use Rattle.sheet_selects.specs.laws.OwnOutputsLaws.{own_put, other_passed, own_counted, other_not_counted, case_outputs_put}
 use Rattle.sheet_selects.proofs.put_case_outputs.Statement.{statement}
 use Rattle.sheet_selects.proofs.put_case_outputs.Tie as tie
 
 abbrev invariant-loop : tie.invariant-loop
 invariant-loop w out₀ node j e₀ n₀ o₀ out e n o =
-    OfState w (λ g s. Puts out₀ e₀ (run (own w node (case-value w j s)) o (o₀ - o)) out e)
-    × (node-times w node o₀ ≡ node-times w node o + n) × (n + o ≤ o₀) × (length out ≡ length out₀)
+    OfState w (λ g s. Puts out₀ e₀ (run (own w node (case_value w j s)) o (o₀ - o)) out e)
+    × (node_times w node o₀ ≡ node_times w node o + n) × (n + o ≤ o₀) × (length out ≡ length out₀)
 
 abbrev decreases-loop : tie.decreases-loop
 decreases-loop w out₀ node j e₀ n₀ o₀ out e n o = o
@@ -23,9 +23,9 @@ decreases-loop w out₀ node j e₀ n₀ o₀ out e n o = o
 output-count-requires : tie.Need-output-count-requires invariant-loop decreases-loop
 output-count-requires c κs = search rules
 
-loop-holds : tie.Need-loop-init invariant-loop decreases-loop
-loop-holds c = (
-  λ g s x. run-start (own c.before.before.args.w.now c.before.before.args.node (case-value
+loop_holds : tie.Need-loop-init invariant-loop decreases-loop
+loop_holds c = (
+  λ g s x. run_start (own c.before.before.args.w.now c.before.before.args.node (case_value
       c.before.before.args.w.now c.before.before.args.j s)) c.output-count.result c.before.before.args.out.now
       c.before.before.args.at,
   omega arith,
@@ -48,23 +48,23 @@ put-value-requires c κs = search rules
 add-n : tie.Need-overflow-add-n invariant-loop decreases-loop
 add-n c = search rules
 
-loop-less : tie.Need-loop-smaller invariant-loop decreases-loop
-loop-less c = search rules
+loop_less : tie.Need-loop-smaller invariant-loop decreases-loop
+loop_less c = search rules
 
-loop-again : tie.Need-loop-preserved invariant-loop decreases-loop
-loop-again c =
+loop_again : tie.Need-loop-preserved invariant-loop decreases-loop
+loop_again c =
     let at-put-value = c.before.before in
     let at-output-value = at-put-value.before in
     let at-if = at-output-value.before.before in
     let at-output-node = at-if.before in
     let at-loop-test = at-output-node.before in
     let at-loop = at-loop-test.before in (
-      λ g s x. own_put _ _ (case-value _ _ s) _ _ at-output-node.output-node.ensures
+      λ g s x. own_put _ _ (case_value _ _ s) _ _ at-output-node.output_node.ensures
           at-loop-test.loop-test.true (omega arith)
           (at-loop.loop.invariant.0 g s x)
-          at-if.if1.true (rw at-output-value.output-value.ensures at
+          at-if.if1.true (rw at-output-value.output_value.ensures at
           (at-put-value.put-value.ensures g s x)),
-      own-counted _ _ _ _ _ at-output-node.output-node.ensures
+      own_counted _ _ _ _ _ at-output-node.output_node.ensures
           at-loop-test.loop-test.true
           at-loop.loop.invariant.1
           at-if.if1.true refl,
@@ -77,9 +77,9 @@ loop-less-2 c = search rules
 
 loop-again-2 : tie.Need-loop-preserved-2 invariant-loop decreases-loop
 loop-again-2 c = (
-  λ g s x. other-passed _ _ (case-value _ _ s) _ _ c.before.output-node.ensures c.before.before.loop-test.true (omega arith)
+  λ g s x. other_passed _ _ (case_value _ _ s) _ _ c.before.output_node.ensures c.before.before.loop-test.true (omega arith)
       (c.before.before.before.loop.invariant.0 g s x) c.if1.false refl refl,
-  other-not-counted _ _ _ _ _ c.before.output-node.ensures c.before.before.loop-test.true
+  other_not_counted _ _ _ _ _ c.before.output_node.ensures c.before.before.loop-test.true
       c.before.before.before.loop.invariant.1 c.if1.false refl,
   omega arith,
   c.before.before.before.loop.invariant.3,
@@ -97,7 +97,7 @@ returns c =
     let at-loop-test = at-put-word.before.before in
     let at-loop = at-loop-test.before in
     let at-output-count = at-loop.before in
-    case-outputs-put _ _ _ at-output-count.output-count.ensures
+    case_outputs_put _ _ _ at-output-count.output-count.ensures
     at-loop-test.loop-test.false at-loop.loop.invariant.1
     at-put-word.put_word.ensures _ at-loop.loop.invariant.0
 
@@ -108,14 +108,14 @@ put-case-outputs-spec =
     invariant-loop
     decreases-loop
     output-count-requires
-    loop-holds
+    loop_holds
     sub-o
     output-node-requires
     output-value-requires
     put-value-requires
     add-n
-    loop-less
-    loop-again
+    loop_less
+    loop_again
     loop-less-2
     loop-again-2
     put-word-requires

@@ -1,4 +1,4 @@
-use Rattle.sheet_selects.specs.laws.SelectLinesLaws.{select-line-put}
+use Rattle.sheet_selects.specs.laws.SelectLinesLaws.{select_line_put}
 use borrow.Author.Rules.{rules}
 use Rattle.sheet_selects.proofs.put_select_line.Statement.{statement}
 use Rattle.sheet_selects.proofs.put_select_line.Tie as tie
@@ -44,13 +44,13 @@ returns c =
     let at-select-cases = at-put-case-numbers.before in
     let at-put-output-types = at-select-cases.before.before.before.before in
     let at-select-node = at-put-output-types.before.before in
-    select-line-put _ _
-    at-select-node.select-node.ensures
+    select_line_put _ _
+    at-select-node.select_node.ensures
     at-put-output-types.put-output-types.ensures
-    at-select-cases.select-cases.ensures
-    at-put-case-numbers.put-case-numbers.ensures at-select-scrutinee.select-scrutinee.ensures
+    at-select-cases.select_cases.ensures
+    at-put-case-numbers.put-case-numbers.ensures at-select-scrutinee.select_scrutinee.ensures
     at-put-value.put-value.ensures
-    at-select-shape.select-shape.ensures at-kind-word.kind-word.ensures
+    at-select-shape.select_shape.ensures at-kind-word.kind_word.ensures
     at-put-three.put_three.ensures
 
 pub put-select-line-spec : {M : Type 1} → statement M

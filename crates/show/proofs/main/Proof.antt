@@ -1,5 +1,5 @@
 use native.Mathlib.Omega.{arith}
-use Rattle.text_show.specs.laws.Showing.{never-full}
+use Rattle.text_show.specs.laws.Showing.{never_full}
 use borrow.Author.Rules.{rules}
 use Rattle.show.proofs.main.Statement.{statement}
 use Rattle.show.proofs.main.Tie as tie
@@ -38,7 +38,7 @@ slice-aggregate-text-size : tie.Need-slice-aggregate-text-size
 slice-aggregate-text-size c = search rules
 
 text-size-requires : tie.Need-text-size-requires
-text-size-requires c κs = never-full c.before.before.show.ensures (omega arith)
+text-size-requires c κs = never_full c.before.before.show.ensures (omega arith)
 
 array-share-prefix-out : tie.Need-array-share-prefix-out
 array-share-prefix-out c = search rules
@@ -55,11 +55,11 @@ slice-aggregate-write-all-3 c = search rules
 write-all-requires-3 : tie.Need-write-all-requires-3
 write-all-requires-3 c κs = search rules
 
-returns-2 : tie.Need-returns-2
-returns-2 c = search rules
+returns_2 : tie.Need-returns-2
+returns_2 c = search rules
 
-returns-3 : tie.Need-returns-3
-returns-3 c = search rules
+returns_3 : tie.Need-returns-3
+returns_3 c = search rules
 
 pub main_spec : {M : Type 1} → statement M
 main_spec =
@@ -82,5 +82,5 @@ main_spec =
     write-all-requires-2
     slice-aggregate-write-all-3
     write-all-requires-3
-    returns-2
-    returns-3)
+    returns_2
+    returns_3)

@@ -9,69 +9,69 @@ use Rattle.std.proofs.Math.Decide.{dec_lt, ℕ_discrete}
 use Rattle.std.proofs.Math.ListN.{get_or}
 use Rattle.std.proofs.lemmas.List.Edits.{sets}
 use borrow.Author.Tests.{eq-eqb, ne_eqb, lt-ltb, le-ltb}
-use Rattle.meaning.specs.facts.Tests.{clash, in-or-out}
-use Rattle.nesting.specs.Nesting.{RegionInputRewrites, replace-with, renumber-or-replace-with, RewriteEntry, NestState, rewrites-of}
-use Rattle.nesting.specs.Nesting.{with-tables, most-regions}
+use Rattle.meaning.specs.facts.Tests.{clash, in_or_out}
+use Rattle.nesting.specs.Nesting.{RegionInputRewrites, replace_with, renumber_or_replace_with, RewriteEntry, NestState, rewrites_of}
+use Rattle.nesting.specs.Nesting.{with_tables, most_regions}
 use Rattle.nesting.specs.lookups.ChainEnds.{entry_kept}
-use Rattle.state_words.specs.Sections.{section, word, stored, stored-all, rewrites, outputs, start, size, used}
-use Rattle.state_words.specs.laws.Apart.{section-stored}
-use Rattle.state_nodes.specs.NodeTables.{entry-kind, rewrite-kind, entries, cleared, reached, inserted}
+use Rattle.state_words.specs.Sections.{section, word, stored, stored_all, rewrites, outputs, start, size, used}
+use Rattle.state_words.specs.laws.Apart.{section_stored}
+use Rattle.state_nodes.specs.NodeTables.{entry_kind, rewrite_kind, entries, cleared, reached, inserted}
 use Rattle.state_shown.specs.Values.{value}
-use Rattle.state_shown.specs.laws.Stores.{section-run, part_length, ChangesOnly, run-changes, word-changes, changes-then}
-use Rattle.state_shown.specs.laws.Stores.{nothing-changes}
-use Rattle.state_shown.specs.laws.Stores.{word-there, word-apart}
-use Rattle.state_shown.specs.laws.Fills.{fill-length, fill-changes, fill-beside, fill-there}
-use Rattle.meaning.specs.facts.Parts.{run-before, run-behind, run_in}
-use Rattle.state_shown.specs.Tables.{ShowsEntry, no-entry, replaces, renumbers, EntryWords, replace-words, renumber-words}
+use Rattle.state_shown.specs.laws.Stores.{section_run, part_length, ChangesOnly, run_changes, word_changes, changes_then}
+use Rattle.state_shown.specs.laws.Stores.{nothing_changes}
+use Rattle.state_shown.specs.laws.Stores.{word_there, word_apart}
+use Rattle.state_shown.specs.laws.Fills.{fill_length, fill_changes, fill_beside, fill_there}
+use Rattle.meaning.specs.facts.Parts.{run_before, run_behind, run_in}
+use Rattle.state_shown.specs.Tables.{ShowsEntry, no_entry, replaces, renumbers, EntryWords, replace_words, renumber_words}
 use Rattle.state_shown.specs.Tables.{ShowsRewrites}
 use Rattle.state_shown.specs.Tables.{ShowsTables}
 use Rattle.meaning.specs.Lists.{pick}
-use Rattle.state_words.specs.Rows.{attempts-at, entries_at, entry-none, merges-at, no-total, nodes-at, outputs-at, regions-at}
-use Rattle.state_words.specs.Rows.{rewrite-kind-at}
-use Rattle.state_words.specs.Rows.{rewrite-row-size, rewrite-value, rewrite-value-at, rewrite-values-at, twice-at}
+use Rattle.state_words.specs.Rows.{attempts_at, entries_at, entry_none, merges_at, no_total, nodes_at, outputs_at, regions_at}
+use Rattle.state_words.specs.Rows.{rewrite_kind_at}
+use Rattle.state_words.specs.Rows.{rewrite_row_size, rewrite_value, rewrite_value_at, rewrite_values_at, twice_at}
 
 -- ---- The log with an entry more.
 of_other : (es : List RewriteEntry) (e : RewriteEntry) (q : ℕ) → eqb q e.region ≡ false
-    → rewrites-of (es ++ (e ∷ [])) q ≡ rewrites-of es q
+    → rewrites_of (es ++ (e ∷ [])) q ≡ rewrites_of es q
 of_other [] e q h = rw h
 of_other (y ∷ es) e q h = ap (λ o. pick (eqb q y.region) (some y.rewrites) o) (of_other es e q h)
 
-of-new : (es : List RewriteEntry) (e : RewriteEntry) (q : ℕ) → eqb q e.region ≡ true → rewrites-of es q ≡ none
-    → rewrites-of (es ++ (e ∷ [])) q ≡ some e.rewrites
-of-new [] e q h n = rw h
-of-new (y ∷ es) e q h n = go (eqb q y.region) n (λ m. of-new es e q h m)
+of_new : (es : List RewriteEntry) (e : RewriteEntry) (q : ℕ) → eqb q e.region ≡ true → rewrites_of es q ≡ none
+    → rewrites_of (es ++ (e ∷ [])) q ≡ some e.rewrites
+of_new [] e q h n = rw h
+of_new (y ∷ es) e q h n = go (eqb q y.region) n (λ m. of_new es e q h m)
   where
-    go : (b : Bool) → pick b (some y.rewrites) (rewrites-of es q) ≡ none
-        → (rewrites-of es q ≡ none → rewrites-of (es ++ (e ∷ [])) q ≡ some e.rewrites)
-        → pick b (some y.rewrites) (rewrites-of (es ++ (e ∷ [])) q) ≡ some e.rewrites
+    go : (b : Bool) → pick b (some y.rewrites) (rewrites_of es q) ≡ none
+        → (rewrites_of es q ≡ none → rewrites_of (es ++ (e ∷ [])) q ≡ some e.rewrites)
+        → pick b (some y.rewrites) (rewrites_of (es ++ (e ∷ [])) q) ≡ some e.rewrites
     go true n ih = absurd (clash (cc))
     go false n ih = ih n
 
 -- What the words of a region say of its entry.
-none-if : {l : List ℕ} {r : ℕ} {o : Option RegionInputRewrites} → ShowsEntry l r o → entry-kind l r ≡ entry-none → o ≡ none
-none-if (no-entry e) h = refl
-none-if (replaces e f) h = absurd (omega arith)
-none-if (renumbers e f) h = absurd (omega arith)
+none_if : {l : List ℕ} {r : ℕ} {o : Option RegionInputRewrites} → ShowsEntry l r o → entry_kind l r ≡ entry_none → o ≡ none
+none_if (no_entry e) h = refl
+none_if (replaces e f) h = absurd (omega arith)
+none_if (renumbers e f) h = absurd (omega arith)
 
-some-if : {l : List ℕ} {r : ℕ} {o : Option RegionInputRewrites} → ShowsEntry l r o → (entry-kind l r ≡ entry-none → ⊥)
+some_if : {l : List ℕ} {r : ℕ} {o : Option RegionInputRewrites} → ShowsEntry l r o → (entry_kind l r ≡ entry_none → ⊥)
     → (x : RegionInputRewrites) × (o ≡ some x)
-some-if (no-entry e) h = absurd (h e)
-some-if (replaces {vs} e f) h = (replace-with vs, refl)
-some-if (renumbers {xs} e f) h = (renumber-or-replace-with xs, refl)
+some_if (no_entry e) h = absurd (h e)
+some_if (replaces {vs} e f) h = (replace_with vs, refl)
+some_if (renumbers {xs} e f) h = (renumber_or_replace_with xs, refl)
 
-entry-same : (l l' : List ℕ) (r : ℕ) → entry-kind l' r ≡ entry-kind l r
-    → ((k : ℕ) → k < 4 → get_or l' (rewrite-value-at r k) 0 ≡ get_or l (rewrite-value-at r k) 0) → {o : Option RegionInputRewrites}
+entry_same : (l l' : List ℕ) (r : ℕ) → entry_kind l' r ≡ entry_kind l r
+    → ((k : ℕ) → k < 4 → get_or l' (rewrite_value_at r k) 0 ≡ get_or l (rewrite_value_at r k) 0) → {o : Option RegionInputRewrites}
     → ShowsEntry l r o → ShowsEntry l' r o
-entry-same l l' r s t (no-entry e) = no-entry (s ∙ e)
-entry-same l l' r s t (replaces e f) = replaces (s ∙ e) (λ k h. ap value (t k h) ∙ f k h)
-entry-same l l' r s t (renumbers {xs} e f) = renumbers {xs = xs} (s ∙ e) (λ k h. rw (t k h) (f k h))
+entry_same l l' r s t (no_entry e) = no_entry (s ∙ e)
+entry_same l l' r s t (replaces e f) = replaces (s ∙ e) (λ k h. ap value (t k h) ∙ f k h)
+entry_same l l' r s t (renumbers {xs} e f) = renumbers {xs = xs} (s ∙ e) (λ k h. rw (t k h) (f k h))
 
 -- ---- Region r's entry is set, and no other changes.
 pub record Enters (l l' : List ℕ) (r kind : ℕ) (ws : List ℕ) : Type 0 where
-  pub kind-set : entry-kind l' r ≡ kind
-  pub words-set : (k : ℕ) → k < 4 → get_or l' (rewrite-value-at r k) 0 ≡ get_or ws k 0
-  pub other-kinds : (q : ℕ) → q < most-regions → (q ≡ r → ⊥) → entry-kind l' q ≡ entry-kind l q
-  pub other-words : (q k : ℕ) → q < most-regions → (q ≡ r → ⊥) → k < 4 → get_or l' (rewrite-value-at q k) 0 ≡ get_or l (rewrite-value-at q k) 0
+  pub kind_set : entry_kind l' r ≡ kind
+  pub words_set : (k : ℕ) → k < 4 → get_or l' (rewrite_value_at r k) 0 ≡ get_or ws k 0
+  pub other_kinds : (q : ℕ) → q < most_regions → (q ≡ r → ⊥) → entry_kind l' q ≡ entry_kind l q
+  pub other_words : (q k : ℕ) → q < most_regions → (q ≡ r → ⊥) → k < 4 → get_or l' (rewrite_value_at q k) 0 ≡ get_or l (rewrite_value_at q k) 0
 
 -- Up to it entries are set: those that were not, to none.
 module _ (w : List ℕ) (r : ℕ) where
@@ -81,215 +81,215 @@ module _ (w : List ℕ) (r : ℕ) where
   abbrev newly : List ℕ
   newly = stored between rewrites entries_at (r + 1)
 
-  by-reach : (P : List ℕ → Type 0) → (r < entries w → P w) → (entries w ≤ r → P newly) → P (reached w r)
+  by_reach : (P : List ℕ → Type 0) → (r < entries w → P w) → (entries w ≤ r → P newly) → P (reached w r)
   unfolding reached
-  by-reach P there new = go (in-or-out r (entries w))
+  by_reach P there new = go (in_or_out r (entries w))
     where
       go : (r < entries w) ⊎ (entries w ≤ r) → P (reached w r)
       go (inl a) = rw (lt-ltb r (entries w) a) (there a)
       go (inr a) = rw (le-ltb r (entries w) a) (new a)
 
-  reached-changes : (i : ℕ) → ChangesOnly rewrites i w (reached w r)
-  reached-changes i =
-      by-reach (λ z. ChangesOnly rewrites i w z) (λ a. nothing-changes rewrites i w)
-      (λ a. changes-then (fill-changes rewrites (λ q. rewrite-kind-at q) (λ q. 0) (omega arith) i (r - entries w) (entries w) w)
-      (word-changes rewrites i between (omega arith) entries_at (r + 1)))
+  reached_changes : (i : ℕ) → ChangesOnly rewrites i w (reached w r)
+  reached_changes i =
+      by_reach (λ z. ChangesOnly rewrites i w z) (λ a. nothing_changes rewrites i w)
+      (λ a. changes_then (fill_changes rewrites (λ q. rewrite_kind_at q) (λ q. 0) (omega arith) i (r - entries w) (entries w) w)
+      (word_changes rewrites i between (omega arith) entries_at (r + 1)))
 
   module _ (room : used ≤ length w) where
-    newly-many : entries newly ≡ r + 1
-    newly-many =
-        let e = fill-length rewrites (λ q. rewrite-kind-at q) (λ q. 0) (r - entries w) (entries w) w in
-        word-there between rewrites entries_at (r + 1) (omega arith) (omega arith)
+    newly_many : entries newly ≡ r + 1
+    newly_many =
+        let e = fill_length rewrites (λ q. rewrite_kind_at q) (λ q. 0) (r - entries w) (entries w) w in
+        word_there between rewrites entries_at (r + 1) (omega arith) (omega arith)
 
-    newly-word : (i : ℕ) → i < entries_at → ((q : ℕ) → entries w ≤ q → i ≡ rewrite-kind-at q → ⊥)
+    newly_word : (i : ℕ) → i < entries_at → ((q : ℕ) → entries w ≤ q → i ≡ rewrite_kind_at q → ⊥)
         → word newly rewrites i ≡ word w rewrites i
-    newly-word i h d =
-        word-apart between rewrites entries_at (r + 1) rewrites i (omega arith)
-        ∙ fill-beside rewrites (λ q. rewrite-kind-at q) (λ q. 0) (r - entries w) (entries w) w i d
+    newly_word i h d =
+        word_apart between rewrites entries_at (r + 1) rewrites i (omega arith)
+        ∙ fill_beside rewrites (λ q. rewrite_kind_at q) (λ q. 0) (r - entries w) (entries w) w i d
 
-    newly-none : (q : ℕ) → q < most-regions → entries w ≤ q → q < r → word newly rewrites (rewrite-kind-at q) ≡ entry-none
-    newly-none q h a b =
-        word-apart between rewrites entries_at (r + 1) rewrites (rewrite-kind-at q) (omega arith)
-        ∙ fill-there rewrites (λ q. rewrite-kind-at q) (λ q. 0) (λ a b c e. omega arith) (r - entries w) (entries w) w (omega arith) q a
+    newly_none : (q : ℕ) → q < most_regions → entries w ≤ q → q < r → word newly rewrites (rewrite_kind_at q) ≡ entry_none
+    newly_none q h a b =
+        word_apart between rewrites entries_at (r + 1) rewrites (rewrite_kind_at q) (omega arith)
+        ∙ fill_there rewrites (λ q. rewrite_kind_at q) (λ q. 0) (λ a b c e. omega arith) (r - entries w) (entries w) w (omega arith) q a
         (omega arith)
         (omega arith)
 
-    newly-kind : entries w ≤ r → (q : ℕ) → q < most-regions → (q ≡ r → ⊥) → rewrite-kind newly q ≡ rewrite-kind w q
-    unfolding entry-kind
-    newly-kind many q h d = go (in-or-out q (entries w)) (in-or-out q r)
+    newly_kind : entries w ≤ r → (q : ℕ) → q < most_regions → (q ≡ r → ⊥) → rewrite_kind newly q ≡ rewrite_kind w q
+    unfolding entry_kind
+    newly_kind many q h d = go (in_or_out q (entries w)) (in_or_out q r)
       where
-        go : (q < entries w) ⊎ (entries w ≤ q) → (q < r) ⊎ (r ≤ q) → rewrite-kind newly q ≡ rewrite-kind w q
+        go : (q < entries w) ⊎ (entries w ≤ q) → (q < r) ⊎ (r ≤ q) → rewrite_kind newly q ≡ rewrite_kind w q
         go (inl a) b =
-            rw (newly-many, lt-ltb q (r + 1) (omega arith), lt-ltb q (entries w) a)
-            (newly-word (rewrite-kind-at q) (omega arith) (λ m c e. omega arith))
+            rw (newly_many, lt-ltb q (r + 1) (omega arith), lt-ltb q (entries w) a)
+            (newly_word (rewrite_kind_at q) (omega arith) (λ m c e. omega arith))
         go (inr a) (inl b) =
-            rw (newly-many, lt-ltb q (r + 1) (omega arith), le-ltb q (entries w) a) (newly-none q h a b)
-        go (inr a) (inr b) = rw (newly-many, le-ltb q (r + 1) (omega arith), le-ltb q (entries w) a)
+            rw (newly_many, lt-ltb q (r + 1) (omega arith), le-ltb q (entries w) a) (newly_none q h a b)
+        go (inr a) (inr b) = rw (newly_many, le-ltb q (r + 1) (omega arith), le-ltb q (entries w) a)
 
-    reached-many : r < entries (reached w r)
-    reached-many = by-reach (λ z. r < entries z) (λ a. a) (λ a. let e = newly-many in omega arith)
+    reached_many : r < entries (reached w r)
+    reached_many = by_reach (λ z. r < entries z) (λ a. a) (λ a. let e = newly_many in omega arith)
 
-    reached-kind : (q : ℕ) → q < most-regions → (q ≡ r → ⊥) → rewrite-kind (reached w r) q ≡ rewrite-kind w q
-    reached-kind q h d = by-reach (λ z. rewrite-kind z q ≡ rewrite-kind w q) (λ a. refl) (λ a. newly-kind a q h d)
+    reached_kind : (q : ℕ) → q < most_regions → (q ≡ r → ⊥) → rewrite_kind (reached w r) q ≡ rewrite_kind w q
+    reached_kind q h d = by_reach (λ z. rewrite_kind z q ≡ rewrite_kind w q) (λ a. refl) (λ a. newly_kind a q h d)
 
-    reached-word : (q k : ℕ) → q < most-regions → k < 4 → rewrite-value (reached w r) q k ≡ rewrite-value w q k
-    reached-word q k h i =
-        by-reach (λ z. rewrite-value z q k ≡ rewrite-value w q k) (λ a. refl)
-        (λ a. newly-word (rewrite-value-at q k) (omega arith) (λ m c e. omega arith))
+    reached_word : (q k : ℕ) → q < most_regions → k < 4 → rewrite_value (reached w r) q k ≡ rewrite_value w q k
+    reached_word q k h i =
+        by_reach (λ z. rewrite_value z q k ≡ rewrite_value w q k) (λ a. refl)
+        (λ a. newly_word (rewrite_value_at q k) (omega arith) (λ m c e. omega arith))
 
 -- Then the five words of its own.
-module _ (l : List ℕ) (r kind : ℕ) (ws : List ℕ) (long : entries_at < length l) (len : length ws ≡ 4) (below : r < most-regions) where
+module _ (l : List ℕ) (r kind : ℕ) (ws : List ℕ) (long : entries_at < length l) (len : length ws ≡ 4) (below : r < most_regions) where
   abbrev entered : List ℕ
-  entered = sets l (rewrite-kind-at r) (kind ∷ ws)
+  entered = sets l (rewrite_kind_at r) (kind ∷ ws)
 
-  entered-many : get_or entered entries_at 0 ≡ get_or l entries_at 0
-  entered-many = run-behind l (rewrite-kind-at r) (kind ∷ ws) entries_at (omega arith)
+  entered_many : get_or entered entries_at 0 ≡ get_or l entries_at 0
+  entered_many = run_behind l (rewrite_kind_at r) (kind ∷ ws) entries_at (omega arith)
 
-  entered-other : (q i : ℕ) → (q ≡ r → ⊥) → rewrite-kind-at q ≤ i → i < rewrite-kind-at q + rewrite-row-size → get_or entered i 0 ≡ get_or l i 0
-  entered-other q i d a b =
+  entered_other : (q i : ℕ) → (q ≡ r → ⊥) → rewrite_kind_at q ≤ i → i < rewrite_kind_at q + rewrite_row_size → get_or entered i 0 ≡ get_or l i 0
+  entered_other q i d a b =
       elim (dec_lt q r) [
-        | yes h ↦ run-before l (rewrite-kind-at r) (kind ∷ ws) i (omega arith)
+        | yes h ↦ run_before l (rewrite_kind_at r) (kind ∷ ws) i (omega arith)
         | no h ↦
-            run-behind l (rewrite-kind-at r) (kind ∷ ws) i (omega arith)
+            run_behind l (rewrite_kind_at r) (kind ∷ ws) i (omega arith)
       ]
 
-  entered-kind : r < get_or l entries_at 0 → entry-kind entered r ≡ kind
-  unfolding entry-kind
-  entered-kind h =
-      let e : rewrite-kind-at r ≡ rewrite-kind-at r + 0 = omega arith in
-      rw (entered-many, lt-ltb r (get_or l entries_at 0) h)
-      (ap (λ i. get_or entered i 0) e ∙ run_in l (rewrite-kind-at r) (kind ∷ ws) 0 (omega arith) (omega arith))
+  entered_kind : r < get_or l entries_at 0 → entry_kind entered r ≡ kind
+  unfolding entry_kind
+  entered_kind h =
+      let e : rewrite_kind_at r ≡ rewrite_kind_at r + 0 = omega arith in
+      rw (entered_many, lt-ltb r (get_or l entries_at 0) h)
+      (ap (λ i. get_or entered i 0) e ∙ run_in l (rewrite_kind_at r) (kind ∷ ws) 0 (omega arith) (omega arith))
 
-  entered-kinds : (q : ℕ) → (q ≡ r → ⊥) → entry-kind entered q ≡ entry-kind l q
-  unfolding entry-kind
-  entered-kinds q d = rw (entered-many, entered-other q (rewrite-kind-at q) d (omega arith) (omega arith))
+  entered_kinds : (q : ℕ) → (q ≡ r → ⊥) → entry_kind entered q ≡ entry_kind l q
+  unfolding entry_kind
+  entered_kinds q d = rw (entered_many, entered_other q (rewrite_kind_at q) d (omega arith) (omega arith))
 
-  entered-word : (k : ℕ) → k < 4 → get_or entered (rewrite-value-at r k) 0 ≡ get_or ws k 0
-  entered-word k h =
-      let e : rewrite-kind-at r + 1 + k ≡ rewrite-kind-at r + suc k = omega arith in
-      ap (λ i. get_or entered i 0) e ∙ run_in l (rewrite-kind-at r) (kind ∷ ws) (suc k) (omega arith) (omega arith)
+  entered_word : (k : ℕ) → k < 4 → get_or entered (rewrite_value_at r k) 0 ≡ get_or ws k 0
+  entered_word k h =
+      let e : rewrite_kind_at r + 1 + k ≡ rewrite_kind_at r + suc k = omega arith in
+      ap (λ i. get_or entered i 0) e ∙ run_in l (rewrite_kind_at r) (kind ∷ ws) (suc k) (omega arith) (omega arith)
 
 -- ---- An insertion: it enters, or changes nothing.
-module _ (w : List ℕ) (room : used ≤ length w) (r kind : ℕ) (ws : List ℕ) (below : r < most-regions) (len : length ws ≡ 4) where
+module _ (w : List ℕ) (room : used ≤ length w) (r kind : ℕ) (ws : List ℕ) (below : r < most_regions) (len : length ws ≡ 4) where
   abbrev first : List ℕ
-  first = stored (reached w r) rewrites (rewrite-kind-at r) kind
+  first = stored (reached w r) rewrites (rewrite_kind_at r) kind
 
-  inserted-section : section (stored-all first rewrites (rewrite-values-at r) ws) rewrites ≡ sets (section (reached w r) rewrites)
-      (rewrite-kind-at r) (kind ∷ ws)
-  inserted-section = section-run first rewrites (rewrite-values-at r) ws
-      ∙ rw (section-stored (reached w r) rewrites (rewrite-kind-at r) kind, add-one (rewrite-kind-at r))
+  inserted_section : section (stored_all first rewrites (rewrite_values_at r) ws) rewrites ≡ sets (section (reached w r) rewrites)
+      (rewrite_kind_at r) (kind ∷ ws)
+  inserted_section = section_run first rewrites (rewrite_values_at r) ws
+      ∙ rw (section_stored (reached w r) rewrites (rewrite_kind_at r) kind, add-one (rewrite_kind_at r))
 
-  reached-long : entries_at < length (section (reached w r) rewrites)
-  reached-long =
-      let e = (reached-changes w r no-total).words in
+  reached_long : entries_at < length (section (reached w r) rewrites)
+  reached_long =
+      let e = (reached_changes w r no_total).words in
       let f = part_length (start rewrites) (size rewrites) (reached w r) (omega arith) in omega arith
 
-  inserted-enters : Enters (section w rewrites) (section (stored-all first rewrites (rewrite-values-at r) ws) rewrites) r kind ws
-  inserted-enters =
+  inserted_enters : Enters (section w rewrites) (section (stored_all first rewrites (rewrite_values_at r) ws) rewrites) r kind ws
+  inserted_enters =
       let l = section (reached w r) rewrites in
-      rw inserted-section
+      rw inserted_section
       record {
-        kind-set = entered-kind l r kind ws reached-long len below (reached-many w r room);
-        words-set = entered-word l r kind ws reached-long len below;
-        other-kinds = λ q h d. entered-kinds l r kind ws reached-long len below q d ∙ reached-kind w r room q h d;
-        other-words = λ q k h d i.
-            entered-other l r kind ws reached-long len below q (rewrite-value-at q k) d (omega arith) (omega arith)
-            ∙ reached-word w r room q k h i;
+        kind_set = entered_kind l r kind ws reached_long len below (reached_many w r room);
+        words_set = entered_word l r kind ws reached_long len below;
+        other_kinds = λ q h d. entered_kinds l r kind ws reached_long len below q d ∙ reached_kind w r room q h d;
+        other_words = λ q k h d i.
+            entered_other l r kind ws reached_long len below q (rewrite_value_at q k) d (omega arith) (omega arith)
+            ∙ reached_word w r room q k h i;
       }
 
-  pub by-insertion : (P : List ℕ → Type 0)
-      → ((w' : List ℕ) → rewrite-kind w r ≡ entry-none → Enters (section w rewrites) (section w' rewrites) r kind ws → P w')
-      → ((rewrite-kind w r ≡ entry-none → ⊥) → P w) → P (inserted w r kind ws)
+  pub by_insertion : (P : List ℕ → Type 0)
+      → ((w' : List ℕ) → rewrite_kind w r ≡ entry_none → Enters (section w rewrites) (section w' rewrites) r kind ws → P w')
+      → ((rewrite_kind w r ≡ entry_none → ⊥) → P w) → P (inserted w r kind ws)
   unfolding inserted
-  by-insertion P enters stays =
-      rw (lt-ltb r most-regions below) (elim (ℕ_discrete (rewrite-kind w r) entry-none) [
-        | yes e ↦ rw (eq-eqb (rewrite-kind w r) entry-none e) (enters _ e inserted-enters)
-        | no d ↦ rw (ne_eqb (rewrite-kind w r) entry-none d) (stays d)
+  by_insertion P enters stays =
+      rw (lt-ltb r most_regions below) (elim (ℕ_discrete (rewrite_kind w r) entry_none) [
+        | yes e ↦ rw (eq-eqb (rewrite_kind w r) entry_none e) (enters _ e inserted_enters)
+        | no d ↦ rw (ne_eqb (rewrite_kind w r) entry_none d) (stays d)
       ])
 
 -- ---- The entries after an insertion.
 entry_new : {l l' : List ℕ} {r kind : ℕ} {ws : List ℕ} {x : RegionInputRewrites} → Enters l l' r kind ws → EntryWords r kind ws x
     → ShowsEntry l' r (some x)
-entry_new s (replace-words e f) = replaces (s.kind-set ∙ e) (λ k h. ap value (s.words-set k h) ∙ f k h)
-entry_new s (renumber-words {xs} e f) = renumbers {xs = xs} (s.kind-set ∙ e) (λ k h. rw (s.words-set k h) (f k h))
+entry_new s (replace_words e f) = replaces (s.kind_set ∙ e) (λ k h. ap value (s.words_set k h) ∙ f k h)
+entry_new s (renumber_words {xs} e f) = renumbers {xs = xs} (s.kind_set ∙ e) (λ k h. rw (s.words_set k h) (f k h))
 
-module _ (l : List ℕ) (es : List RewriteEntry) (shown : ShowsRewrites l es) (r kind : ℕ) (ws : List ℕ) (below : r < most-regions)
+module _ (l : List ℕ) (es : List RewriteEntry) (shown : ShowsRewrites l es) (r kind : ℕ) (ws : List ℕ) (below : r < most_regions)
     (x : RegionInputRewrites) where
-  abbrev new-entry : RewriteEntry
-  new-entry = record { region = r; rewrites = x }
+  abbrev new_entry : RewriteEntry
+  new_entry = record { region = r; rewrites = x }
 
-  logged-more : (q : ℕ) → Memᴰ q (map (λ e. e.region) (es ++ (new-entry ∷ []))) → q < most-regions
-  logged-more q m = go (Memᴰ.append_cases (map (λ e. e.region) es)
-      (rw (map-append (λ (e : RewriteEntry). e.region) es (new-entry ∷ [])) at m))
+  logged_more : (q : ℕ) → Memᴰ q (map (λ e. e.region) (es ++ (new_entry ∷ []))) → q < most_regions
+  logged_more q m = go (Memᴰ.append_cases (map (λ e. e.region) es)
+      (rw (map-append (λ (e : RewriteEntry). e.region) es (new_entry ∷ [])) at m))
     where
-      go : Memᴰ q (map (λ e. e.region) es) ⊎ Memᴰ q (r ∷ []) → q < most-regions
+      go : Memᴰ q (map (λ e. e.region) es) ⊎ Memᴰ q (r ∷ []) → q < most_regions
       go (inl i) = shown.logged q i
       go (inr i) = let e = Memᴰ.eq_of_singleton i in omega arith
 
-  first_entry : (l' : List ℕ) → Enters l l' r kind ws → entry-kind l r ≡ entry-none → EntryWords r kind ws x
-      → ShowsRewrites l' (es ++ (new-entry ∷ []))
+  first_entry : (l' : List ℕ) → Enters l l' r kind ws → entry_kind l r ≡ entry_none → EntryWords r kind ws x
+      → ShowsRewrites l' (es ++ (new_entry ∷ []))
   first_entry l' s free words =
       record {
         entry = λ q h. elim (ℕ_discrete q r) [
-          | yes e ↦ rw (e, of-new es new-entry r (eq-eqb r r refl) (none-if (shown.entry r below) free)) (entry_new s words)
-          | no d ↦ rw (of_other es new-entry q (ne_eqb q r d))
-              (entry-same l l' q (s.other-kinds q h d) (λ k i. s.other-words q k h d i) (shown.entry q h))
+          | yes e ↦ rw (e, of_new es new_entry r (eq-eqb r r refl) (none_if (shown.entry r below) free)) (entry_new s words)
+          | no d ↦ rw (of_other es new_entry q (ne_eqb q r d))
+              (entry_same l l' q (s.other_kinds q h d) (λ k i. s.other_words q k h d i) (shown.entry q h))
         ];
-        logged = logged-more;
+        logged = logged_more;
       }
 
-  later-entry : (entry-kind l r ≡ entry-none → ⊥) → ShowsRewrites l (es ++ (new-entry ∷ []))
-  later-entry taken =
+  later_entry : (entry_kind l r ≡ entry_none → ⊥) → ShowsRewrites l (es ++ (new_entry ∷ []))
+  later_entry taken =
       record {
         entry = λ q h. elim (ℕ_discrete q r) [
-          | yes e ↦ (let old = some-if (shown.entry r below) taken in
-              rw (e, entry_kept es (new-entry ∷ []) r old.0 old.1, ← old.1) (shown.entry r below))
-          | no d ↦ rw (of_other es new-entry q (ne_eqb q r d)) (shown.entry q h)
+          | yes e ↦ (let old = some_if (shown.entry r below) taken in
+              rw (e, entry_kept es (new_entry ∷ []) r old.0 old.1, ← old.1) (shown.entry r below))
+          | no d ↦ rw (of_other es new_entry q (ne_eqb q r d)) (shown.entry q h)
         ];
-        logged = logged-more;
+        logged = logged_more;
       }
 
-pub insert-changes : (w : List ℕ) (r kind : ℕ) (ws : List ℕ) (i : ℕ) → ChangesOnly rewrites i w (inserted w r kind ws)
+pub insert_changes : (w : List ℕ) (r kind : ℕ) (ws : List ℕ) (i : ℕ) → ChangesOnly rewrites i w (inserted w r kind ws)
 unfolding inserted
-insert-changes w r kind ws i = go (ltb r most-regions) (eqb (rewrite-kind w r) entry-none)
+insert_changes w r kind ws i = go (ltb r most_regions) (eqb (rewrite_kind w r) entry_none)
   where
     after : List ℕ
-    after = stored (reached w r) rewrites (rewrite-kind-at r) kind
+    after = stored (reached w r) rewrites (rewrite_kind_at r) kind
 
-    go : (a b : Bool) → ChangesOnly rewrites i w (pick a (pick b (stored-all after rewrites (rewrite-values-at r) ws) w) w)
-    go false b = nothing-changes rewrites i w
-    go true false = nothing-changes rewrites i w
+    go : (a b : Bool) → ChangesOnly rewrites i w (pick a (pick b (stored_all after rewrites (rewrite_values_at r) ws) w) w)
+    go false b = nothing_changes rewrites i w
+    go true false = nothing_changes rewrites i w
     go true true =
-        changes-then (reached-changes w r i)
-        (changes-then (word-changes rewrites i (reached w r) (omega arith) (rewrite-kind-at r) kind)
-        (run-changes rewrites i after (omega arith) (rewrite-values-at r) ws))
+        changes_then (reached_changes w r i)
+        (changes_then (word_changes rewrites i (reached w r) (omega arith) (rewrite_kind_at r) kind)
+        (run_changes rewrites i after (omega arith) (rewrite_values_at r) ws))
 
 -- Code and definition enter the same.
-pub rewrites-inserted : {w w' : List ℕ} {s : NestState} → ShowsTables w s → {r kind : ℕ} {ws : List ℕ} {x : RegionInputRewrites}
-    → r < most-regions → length ws ≡ 4 → EntryWords r kind ws x
+pub rewrites_inserted : {w w' : List ℕ} {s : NestState} → ShowsTables w s → {r kind : ℕ} {ws : List ℕ} {x : RegionInputRewrites}
+    → r < most_regions → length ws ≡ 4 → EntryWords r kind ws x
     → w' ≡ inserted w r kind ws
-    → ShowsTables w' (with-tables s.region-states (s.region-input-rewrites ++ (record { region = r; rewrites = x } ∷ []))
-    s.node-outputs s)
-rewrites-inserted {w} {w'} {s} t {r} {kind} {ws} {x} below len words e =
-    let g = insert-changes w r kind ws no-total in
-    let old = s.region-input-rewrites in
+    → ShowsTables w' (with_tables s.region_states (s.region_input_rewrites ++ (record { region = r; rewrites = x } ∷ []))
+    s.node_outputs s)
+rewrites_inserted {w} {w'} {s} t {r} {kind} {ws} {x} below len words e =
+    let g = insert_changes w r kind ws no_total in
+    let old = s.region_input_rewrites in
     let more : List RewriteEntry = old ++ (record { region = r; rewrites = x } ∷ []) in
     rw e
     record {
       size = rw g.words t.size;
-      region-total = g.totals regions-at (omega arith) ∙ t.region-total;
-      node-total = g.totals nodes-at (omega arith) ∙ t.node-total;
-      merge-total = g.totals merges-at (omega arith) ∙ t.merge-total;
-      output-total = g.totals outputs-at (omega arith) ∙ t.output-total;
-      attempts = g.totals attempts-at (omega arith) ∙ t.attempts;
-      twice = g.totals twice-at (omega arith) ∙ t.twice;
-      few-regions = t.few-regions;
-      few-nodes = t.few-nodes;
-      few-merges = t.few-merges;
-      few-outputs = t.few-outputs;
+      region_total = g.totals regions_at (omega arith) ∙ t.region_total;
+      node_total = g.totals nodes_at (omega arith) ∙ t.node_total;
+      merge_total = g.totals merges_at (omega arith) ∙ t.merge_total;
+      output_total = g.totals outputs_at (omega arith) ∙ t.output_total;
+      attempts = g.totals attempts_at (omega arith) ∙ t.attempts;
+      twice = g.totals twice_at (omega arith) ∙ t.twice;
+      few_regions = t.few_regions;
+      few_nodes = t.few_nodes;
+      few_merges = t.few_merges;
+      few_outputs = t.few_outputs;
       rewritten =
-          by-insertion w t.size r kind ws below len (λ z. ShowsRewrites (section z rewrites) more)
+          by_insertion w t.size r kind ws below len (λ z. ShowsRewrites (section z rewrites) more)
           (λ z free enters. first_entry (section w rewrites) old t.rewritten r kind ws below x (section z rewrites) enters free words)
-          (later-entry (section w rewrites) old t.rewritten r kind ws below x);
-      outputs-shown = rw (g.others outputs (omega arith) (omega arith)) t.outputs-shown;
+          (later_entry (section w rewrites) old t.rewritten r kind ws below x);
+      outputs_shown = rw (g.others outputs (omega arith) (omega arith)) t.outputs_shown;
     }

@@ -1,6 +1,6 @@
 use mathlib.Core.Path.{◌∙◌}
 use borrow.Author.Rules.{rules}
-use Rattle.store.specs.laws.Blocks.{block-by}
+use Rattle.store.specs.laws.Blocks.{block_by}
 use Rattle.store.proofs.block_checked.Statement.{statement}
 use Rattle.store.proofs.block_checked.Tie as tie
 
@@ -50,7 +50,7 @@ returns : tie.Need-returns
 returns c =
     let at-pair-at = c.before.before.before.before in
     let start = at-pair-at.before.before in
-    c.first-wrong.ensures ∙ block-by start.args.bytes.now _ _ _ _ _ at-pair-at.pair-at.ensures
+    c.first_wrong.ensures ∙ block_by start.args.bytes.now _ _ _ _ _ at-pair-at.pair-at.ensures
     c.before.before.before.pair-at2.ensures c.before.before.pair-at3.ensures c.before.check-of.ensures
 
 pub block-checked-spec : {M : Type 1} → statement M

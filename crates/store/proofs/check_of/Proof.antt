@@ -3,7 +3,7 @@ use Prim.Native.Nat.{◌+◌, ◌*◌, ◌-◌, ◌≤◌}
 use native.Mathlib.Omega.{arith}
 use lib.ListN.{get_or}
 use Rattle.format.specs.Store.{weighted}
-use Rattle.format.specs.laws.Stores.{weight-bound, weighted-more}
+use Rattle.format.specs.laws.Stores.{weight_bound, weighted_more}
 use Rattle.store.proofs.check_of.Statement.{statement}
 use Rattle.store.proofs.check_of.Tie as tie
 
@@ -18,13 +18,13 @@ product : (c : tie.After-shared-slice-known invariant-loop decreases-loop)
     → get_or c.before.before.before.args.bytes.now (c.before.before.before.args.at + c.before.before.loop.place) 0 *
     (c.before.before.loop.place + 1) ≤ 129540
 product c =
-    weight-bound _ _
+    weight_bound _ _
     (omega (arith, c.shared-slice-known.given (c.before.before.before.args.at + c.before.before.loop.place)))
     (omega arith)
 
-loop-holds : tie.Need-loop-init invariant-loop decreases-loop
+loop_holds : tie.Need-loop-init invariant-loop decreases-loop
 unfolding weighted
-loop-holds c = (omega arith, (omega arith, refl))
+loop_holds c = (omega arith, (omega arith, refl))
 
 add-sum : tie.Need-overflow-add-sum invariant-loop decreases-loop
 add-sum c = omega arith
@@ -50,17 +50,17 @@ add-sum-3 c = omega (arith, product c)
 add-place : tie.Need-overflow-add-place invariant-loop decreases-loop
 add-place c = omega arith
 
-loop-less : tie.Need-loop-smaller invariant-loop decreases-loop
-loop-less c = omega arith
+loop_less : tie.Need-loop-smaller invariant-loop decreases-loop
+loop_less c = omega arith
 
-loop-again : tie.Need-loop-preserved invariant-loop decreases-loop
-loop-again c = (
+loop_again : tie.Need-loop-preserved invariant-loop decreases-loop
+loop_again c = (
   omega arith,
   (
     omega (arith, product c),
     omega (
       arith,
-      weighted-more c.before.before.before.args.bytes.now c.before.before.before.args.at c.before.before.loop.place,
+      weighted_more c.before.before.before.args.bytes.now c.before.before.before.args.at c.before.before.loop.place,
     ),
   ),
 )
@@ -74,7 +74,7 @@ check-of-spec =
     (tie.spec
     invariant-loop
     decreases-loop
-    loop-holds
+    loop_holds
     add-sum
     shared-slice-read-sum
     cast-sum
@@ -83,6 +83,6 @@ check-of-spec =
     mul-sum
     add-sum-3
     add-place
-    loop-less
-    loop-again
+    loop_less
+    loop_again
     returns)

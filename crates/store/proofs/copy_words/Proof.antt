@@ -5,15 +5,15 @@ use native.Mathlib.Omega.{arith}
 use lib.ListN.{drop}
 use borrow.Author.Rules.{rules}
 use Rattle.format.specs.Store.{word_at}
-use Rattle.store.specs.Block.{byte-place}
-use Rattle.store.specs.laws.Words.{place-within, word_read}
-use Rattle.meaning.specs.facts.Elements.{tabulate-more}
+use Rattle.store.specs.Block.{byte_place}
+use Rattle.store.specs.laws.Words.{place_within, word_read}
+use Rattle.meaning.specs.facts.Elements.{tabulate_more}
 use Rattle.store.proofs.copy_words.Statement.{statement}
 use Rattle.store.proofs.copy_words.Tie as tie
 use Rattle.meaning.specs.Lists.{tabulate}
 
 abbrev invariant-loop : tie.invariant-loop
-invariant-loop bytes words₀ w at₀ j₀ words at j = (j ≤ w) × ((at ≡ byte-place j) × (words ≡ tabulate j (word_at bytes) ++ drop j words₀))
+invariant-loop bytes words₀ w at₀ j₀ words at j = (j ≤ w) × ((at ≡ byte_place j) × (words ≡ tabulate j (word_at bytes) ++ drop j words₀))
 
 abbrev decreases-loop : tie.decreases-loop
 decreases-loop bytes words₀ w at₀ j₀ words at j = w - j
@@ -21,14 +21,14 @@ decreases-loop bytes words₀ w at₀ j₀ words at j = w - j
 tells-length-requires : tie.Need-tells-length-requires invariant-loop decreases-loop
 tells-length-requires c κs = search rules
 
-loop-holds : tie.Need-loop-init invariant-loop decreases-loop
+loop_holds : tie.Need-loop-init invariant-loop decreases-loop
 unfolding tabulate
-loop-holds c = (omega arith, (refl, refl))
+loop_holds c = (omega arith, (refl, refl))
 
 pair-at-requires : tie.Need-pair-at-requires invariant-loop decreases-loop
 pair-at-requires c κs =
     let at_pre = c.before.before.before.before.before.before in
-    place-within c.before.loop.j _ _ c.before.loop.invariant.1.0 at_pre.requires.0
+    place_within c.before.loop.j _ _ c.before.loop.invariant.1.0 at_pre.requires.0
     (omega arith)
 
 mul_words : tie.Need-overflow-mul-words invariant-loop decreases-loop
@@ -43,18 +43,18 @@ next-place-requires c κs =
     let at_pre = at-loop.before.before.before.before.before in
     omega (
       arith,
-      place-within at-loop.loop.j _ _ at-loop.loop.invariant.1.0
+      place_within at-loop.loop.j _ _ at-loop.loop.invariant.1.0
           at_pre.requires.0 (omega arith),
     )
 
-add-j : tie.Need-overflow-add-j invariant-loop decreases-loop
-add-j c = omega arith
+add_j : tie.Need-overflow-add-j invariant-loop decreases-loop
+add_j c = omega arith
 
-loop-less : tie.Need-loop-smaller invariant-loop decreases-loop
-loop-less c = omega arith
+loop_less : tie.Need-loop-smaller invariant-loop decreases-loop
+loop_less c = omega arith
 
-loop-again : tie.Need-loop-preserved invariant-loop decreases-loop
-loop-again c =
+loop_again : tie.Need-loop-preserved invariant-loop decreases-loop
+loop_again c =
     let at-loop = c.before.before.before in
     let at-args = at-loop.before.before.before.before.before in (
       omega arith,
@@ -65,7 +65,7 @@ loop-again c =
           word_read
               at-args.args.bytes.now _ _ _ c.before.pair-at.ensures
               at-loop.loop.invariant.1.0,
-        ) (tabulate-more _ _ _ (omega arith)),
+        ) (tabulate_more _ _ _ (omega arith)),
       ),
     )
 
@@ -83,12 +83,12 @@ copy-words-spec =
     invariant-loop
     decreases-loop
     tells-length-requires
-    loop-holds
+    loop_holds
     pair-at-requires
     mul_words
     element-write-words
     next-place-requires
-    add-j
-    loop-less
-    loop-again
+    add_j
+    loop_less
+    loop_again
     returns)

@@ -1,8 +1,8 @@
 use mathlib.Core.Path.{sym, ap, ◌∙◌}
 use borrow.Author.Rules.{rules}
 use Rattle.format.specs.Store.{store_words}
-use Rattle.store.specs.Loaded.{load-answered}
-use Rattle.store.specs.laws.Store.{holds-counted, kept, filled}
+use Rattle.store.specs.Loaded.{load_answered}
+use Rattle.store.specs.laws.Store.{holds_counted, kept, filled}
 use Rattle.store.proofs.load.Statement.{statement}
 use Rattle.store.proofs.load.Tie as tie
 
@@ -22,25 +22,25 @@ returns c =
       answer = c.before.before.words-used.ensures;
       words =
           kept _ (store_words start.args.bytes.now) _ _
-          (sym (ap load-answered c.enum_told.given.1) ∙ c.before.before.words-used.ensures);
+          (sym (ap load_answered c.enum_told.given.1) ∙ c.before.before.words-used.ensures);
     }
 
 copy-words-requires : tie.Need-copy-words-requires
 copy-words-requires c κs =
     let at-words-used = c.before.before.before.before in
     let start = at-words-used.before.before in
-    let h = holds-counted start.args.bytes.now _ (sym (ap load-answered c.before.before.answer.given.1)
+    let h = holds_counted start.args.bytes.now _ (sym (ap load_answered c.before.before.answer.given.1)
     ∙ at-words-used.words-used.ensures) in
     (h.short, h.within)
 
-returns-2 : tie.Need-returns-2
-returns-2 c =
+returns_2 : tie.Need-returns-2
+returns_2 c =
     let at-words-used = c.before.before.before.before.before in
     let start = at-words-used.before.before in
-    let e = sym (ap load-answered c.before.before.before.answer.given.1) ∙ at-words-used.words-used.ensures in
+    let e = sym (ap load_answered c.before.before.before.answer.given.1) ∙ at-words-used.words-used.ensures in
     record {
       answer = e;
-      words = c.copy-words.ensures ∙ filled _ _ _ (holds-counted start.args.bytes.now _ e);
+      words = c.copy-words.ensures ∙ filled _ _ _ (holds_counted start.args.bytes.now _ e);
     }
 
 pub load_spec : {M : Type 1} → statement M
@@ -52,4 +52,4 @@ load_spec =
     enum_told
     returns
     copy-words-requires
-    returns-2)
+    returns_2)

@@ -15,8 +15,8 @@ invariant-loop buffer₀ at₀ buffer at = (at ≤ length buffer) × (length buf
 abbrev decreases-loop : tie.decreases-loop
 decreases-loop buffer₀ at₀ buffer at = length buffer - at
 
-loop-holds : tie.Need-loop-init invariant-loop decreases-loop
-loop-holds c = search rules
+loop_holds : tie.Need-loop-init invariant-loop decreases-loop
+loop_holds c = search rules
 
 sub_read : tie.Need-overflow-sub-read invariant-loop decreases-loop
 sub_read c = search rules
@@ -51,23 +51,23 @@ count-requires c κs = search rules
 same-length-2 : tie.Need-same-length-2 invariant-loop decreases-loop
 same-length-2 c = search rules
 
-returns-2 : tie.Need-returns-2 invariant-loop decreases-loop
-returns-2 c = (counted _ _ (omega arith), λ e. absurd (clash (ap bit e)))
+returns_2 : tie.Need-returns-2 invariant-loop decreases-loop
+returns_2 c = (counted _ _ (omega arith), λ e. absurd (clash (ap bit e)))
 
 add_at : tie.Need-overflow-add-at invariant-loop decreases-loop
 add_at c = search rules
 
-loop-less : tie.Need-loop-smaller invariant-loop decreases-loop
-loop-less c = search rules
+loop_less : tie.Need-loop-smaller invariant-loop decreases-loop
+loop_less c = search rules
 
-loop-again : tie.Need-loop-preserved invariant-loop decreases-loop
-loop-again c = search rules
+loop_again : tie.Need-loop-preserved invariant-loop decreases-loop
+loop_again c = search rules
 
 same-length-3 : tie.Need-same-length-3 invariant-loop decreases-loop
 same-length-3 c = search rules
 
-returns-3 : tie.Need-returns-3 invariant-loop decreases-loop
-returns-3 c = (counted _ _ (omega arith), λ e. absurd (clash (ap bit e)))
+returns_3 : tie.Need-returns-3 invariant-loop decreases-loop
+returns_3 c = (counted _ _ (omega arith), λ e. absurd (clash (ap bit e)))
 
 pub read-input-spec : {M : Type 1} → statement M
 read-input-spec =
@@ -75,7 +75,7 @@ read-input-spec =
     (tie.spec
     invariant-loop
     decreases-loop
-    loop-holds
+    loop_holds
     sub_read
     part-read-start
     part-read-end
@@ -87,9 +87,9 @@ read-input-spec =
     part-count-end
     count-requires
     same-length-2
-    returns-2
+    returns_2
     add_at
-    loop-less
-    loop-again
+    loop_less
+    loop_again
     same-length-3
-    returns-3)
+    returns_3)

@@ -17,13 +17,13 @@ returns c =
 enum_told : tie.Need-enum-told
 enum_told c = search rules
 
-returns-2 : tie.Need-returns-2
-returns-2 c =
+returns_2 : tie.Need-returns-2
+returns_2 c =
     let is = c.before.before.written.given.1 in
     ((omega arith, refl), rw (is, lt-leb _ _ c.if1.false))
 
-returns-3 : tie.Need-returns-3
-returns-3 c = search rules
+returns_3 : tie.Need-returns-3
+returns_3 c = search rules
 
 pub text-size-spec : {M : Type 1} → statement M
-text-size-spec = tie.close (tie.spec enum-known-written returns enum_told returns-2 returns-3)
+text-size-spec = tie.close (tie.spec enum-known-written returns enum_told returns_2 returns_3)

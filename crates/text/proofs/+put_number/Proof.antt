@@ -4,8 +4,8 @@ use native.Mathlib.Omega.{arith}
 use borrow.Author.Rules.{rules}
 use borrow.Fn.Kinds.{In}
 use borrow.Fn.PlainCycle.{Measures, is, falls, and}
-use Rattle.text.specs.laws.Digits.{decimal-small, decimal-more}
-use Rattle.text.specs.laws.BufferLaws.{◌▸◌, of-text}
+use Rattle.text.specs.laws.Digits.{decimal_small, decimal_more}
+use Rattle.text.specs.laws.BufferLaws.{◌▸◌, of_text}
 use Rattle.text.proofs.put_number.Reads as put-number
 use Rattle.text.proofs.put_number.Kinds as put-number-kinds
 use Rattle.text.proofs.+put_number.Lts-put_number as put-number-lts
@@ -63,7 +63,7 @@ put-number-returns : (t : ℕ) → put-number-lts.Need-returns (
   put-number.Post,
 ) (put-number-at t) put-number.Post
 put-number-returns t c =
-    of-text (sym (decimal-small _ c.before.before.before.before.if1.true)) c.before.before.put_byte.ensures
+    of_text (sym (decimal_small _ c.before.before.before.before.if1.true)) c.before.before.put_byte.ensures
 
 put-number-put-number-requires : (t : ℕ) → put-number-lts.Need-put-number-requires (
   put-byte-reads.Asked,
@@ -118,7 +118,7 @@ put-number-returns-2 t c =
     let at-put-byte = c.before.before in
     let at-put-number = at-put-byte.before.before.before.before in
     let at-if = at-put-number.before.before in
-    of-text (sym (decimal-more _ at-if.if1.false))
+    of_text (sym (decimal_more _ at-if.if1.false))
     (at-put-number.put-number.ensures ▸ at-put-byte.put-byte2.ensures)
 
 pub +put-number-spec : {M : Type 1} → statement M

@@ -7,7 +7,7 @@ use lib.Seq.{drop-cons}
 use lib.ListN.{length, drop, get_or, drop_of_length-le}
 use borrow.Author.Rules.{rules}
 use Rattle.text.specs.Buffer.{Buffer, buffer, Wrote}
-use Rattle.text.specs.laws.BufferLaws.{◌▸◌, of-text, wrote_none}
+use Rattle.text.specs.laws.BufferLaws.{◌▸◌, of_text, wrote_none}
 use Rattle.text.proofs.put_text.Statement.{statement}
 use Rattle.text.proofs.put_text.Tie as tie
 
@@ -19,8 +19,8 @@ invariant-loop out₀ at text place₀ k₀ out place k =
 abbrev decreases-loop : tie.decreases-loop
 decreases-loop out₀ at text place₀ k₀ out place k = length text - k
 
-loop-holds : tie.Need-loop-init invariant-loop decreases-loop
-loop-holds c = (omega arith, (refl, λ q w. w))
+loop_holds : tie.Need-loop-init invariant-loop decreases-loop
+loop_holds c = (omega arith, (refl, λ q w. w))
 
 shared-slice-read-put-byte : tie.Need-shared-slice-read-put-byte invariant-loop decreases-loop
 shared-slice-read-put-byte c = omega arith
@@ -31,11 +31,11 @@ put-byte-requires c κs = search rules
 add-k : tie.Need-overflow-add-k invariant-loop decreases-loop
 add-k c = omega arith
 
-loop-less : tie.Need-loop-smaller invariant-loop decreases-loop
-loop-less c = omega arith
+loop_less : tie.Need-loop-smaller invariant-loop decreases-loop
+loop_less c = omega arith
 
-loop-again : tie.Need-loop-preserved invariant-loop decreases-loop
-loop-again c =
+loop_again : tie.Need-loop-preserved invariant-loop decreases-loop
+loop_again c =
     let at-put-byte = c.before.before in
     let at-loop = at-put-byte.before.before.before.before in
     let at-args = at-loop.before.before.before in
@@ -46,7 +46,7 @@ loop-again c =
       (
         at-put-byte.put_byte.auto.0
             ∙ l.invariant.1.0,
-        λ q w. l.invariant.1.1 q (of-text (sym next) (at-put-byte.put_byte.ensures ▸ w)),
+        λ q w. l.invariant.1.1 q (of_text (sym next) (at-put-byte.put_byte.ensures ▸ w)),
       ),
     )
 
@@ -56,7 +56,7 @@ same_length c = c.before.loop.invariant.1.0
 returns : tie.Need-returns invariant-loop decreases-loop
 returns c =
     let l = c.before.loop in
-    l.invariant.1.1 _ (of-text (sym (drop_of_length-le c.before.before.before.before.args.text.now {i = l.k}
+    l.invariant.1.1 _ (of_text (sym (drop_of_length-le c.before.before.before.before.args.text.now {i = l.k}
     (omega arith))) wrote_none)
 
 pub put-text-spec : {M : Type 1} → statement M
@@ -65,11 +65,11 @@ put-text-spec =
     (tie.spec
     invariant-loop
     decreases-loop
-    loop-holds
+    loop_holds
     shared-slice-read-put-byte
     put-byte-requires
     add-k
-    loop-less
-    loop-again
+    loop_less
+    loop_again
     same_length
     returns)

@@ -1,8 +1,8 @@
 use mathlib.Core.Path.{sym, ap, subst, ◌∙◌}
 use borrow.Author.Rules.{rules}
-use Rattle.text.specs.Whole.{Whole, written-to}
+use Rattle.text.specs.Whole.{Whole, written_to}
 use Rattle.text.specs.laws.WholeTexts.{whole}
-use Rattle.text.specs.Text.{labeled, refusal-text}
+use Rattle.text.specs.Text.{labeled, refusal_text}
 use Rattle.text.specs.laws.BufferLaws.{◌▸◌}
 use Rattle.text.proofs.refusal.Statement.{statement}
 use Rattle.text.proofs.refusal.Tie as tie
@@ -29,14 +29,14 @@ same_length : tie.Need-same-length
 same_length c = search rules
 
 returns : tie.Need-returns
-unfolding refusal-text labeled
+unfolding refusal_text labeled
 returns c =
     let at-put-labeled2 = c.before.before.before.before.before.before.before in
     let at-put-labeled = at-put-labeled2.before.before.before.before.before in
     let start = at-put-labeled.before.before.before.before in
     let a = start.args in
-    let text = refusal-text a.number a.word in
-    let answer = c.finish.ensures ∙ ap (λ n. written-to n c.before.before.before.put_byte.result)
+    let text = refusal_text a.number a.word in
+    let answer = c.finish.ensures ∙ ap (λ n. written_to n c.before.before.before.put_byte.result)
     (c.before.before.before.put_byte.auto.0 ∙ at-put-labeled2.put-labeled2.auto.0 ∙ at-put-labeled.put-labeled.auto.0) in
     subst (Whole text a.out.now c.before.before.before.put_byte.new.0) (sym answer)
     (whole text _ _ c.before.before.before.put_byte.result

@@ -9,7 +9,7 @@ use Rattle.text.specs.declared.Written.TheVariants.{Bytes, Full}
 use Rattle.text.specs.Buffer.{buffer, puts, Wrote}
 use Rattle.meaning.specs.Lists.{pick}
 use Rattle.meaning.specs.facts.Tests.{clash}
-use Rattle.text.specs.Whole.{written-to, over, Whole, InFront}
+use Rattle.text.specs.Whole.{written_to, over, Whole, InFront}
 
 beyond : (t b : List ℕ) (at : ℕ) → length b < at → puts (buffer b at) t ≡ buffer b at
 unfolding puts
@@ -35,39 +35,39 @@ behind (x ∷ t) (y ∷ rest) front at h =
     (behind t rest (front ++ (x ∷ [])) (at + 1) (length-append front (x ∷ []) ∙ ap (λ n. n + 1) h)
     ∙ same (append_snoc front x _) (omega arith))
 
-answer-by : (t : Bool) (size room place : ℕ) → leb size room ≡ t → place ≡ min size (room + 1)
-    → written-to room place ≡ pick t (Bytes size) Full
-answer-by true size room place e h =
+answer_by : (t : Bool) (size room place : ℕ) → leb size room ≡ t → place ≡ min size (room + 1)
+    → written_to room place ≡ pick t (Bytes size) Full
+answer_by true size room place e h =
     let fits : size ≤ room = leb-true size room e in
     let q : place ≡ size = omega arith in
     rw (q, e)
-answer-by false size room place e h =
+answer_by false size room place e h =
     let over : room < size = leb-false size room e in
     rw (lt-leb place room (omega arith))
 
 pub whole : (text before after : List ℕ) (place : ℕ) → Wrote (buffer before 0) text (buffer after place)
-    → Whole text before after (written-to (length before) place)
+    → Whole text before after (written_to (length before) place)
 whole text before after place w =
     let e : buffer after place ≡ buffer (take (length before) text ++ drop (length text) before)
     (0 + min (length text) (length before + 1)) = w.is ∙ behind text before [] 0 refl in
     record {
-      answer = answer-by _ (length text) (length before) place refl (ap (λ o. o.place) e ∙ omega arith);
+      answer = answer_by _ (length text) (length before) place refl (ap (λ o. o.place) e ∙ omega arith);
       bytes =
           ap (λ o. o.bytes) e;
     }
 
 -- A buffer of the text's length or more holds it whole.
-pub room-enough : {text before after : List ℕ} {r : Written} → Whole text before after r → length text ≤ length before
+pub room_enough : {text before after : List ℕ} {r : Written} → Whole text before after r → length text ≤ length before
     → r ≡ Bytes (length text)
-room-enough {text} {before} w l = w.answer ∙ rw (le-leb (length text) (length before) l)
+room_enough {text} {before} w l = w.answer ∙ rw (le-leb (length text) (length before) l)
 
-pub in-front : {text before after : List ℕ} {r : Written} {n : ℕ} → Whole text before after r → r ≡ Bytes n → InFront text after n
-in-front {text} {before} {after} {r} {n} w is = by_answer (leb (length text) (length before)) refl
+pub in_front : {text before after : List ℕ} {r : Written} {n : ℕ} → Whole text before after r → r ≡ Bytes n → InFront text after n
+in_front {text} {before} {after} {r} {n} w is = by_answer (leb (length text) (length before)) refl
   where
     by_answer : (t : Bool) → leb (length text) (length before) ≡ t → InFront text after n
     by_answer true e =
         let fits : length text ≤ length before = leb-true _ _ e in
-        let whole = room-enough w fits in
+        let whole = room_enough w fits in
         let size : n ≡ length text = cc in
         let parts : after ≡ text ++ drop (length text) before =
         w.bytes ∙ ap (λ t. t ++ drop (length text) before) (take_all (length before) text fits) in

@@ -1,6 +1,6 @@
 use mathlib.Core.Path.{refl}
 use native.Mathlib.Omega.{arith}
-use Rattle.text_nest.specs.laws.Printing.{sheet-printed, refusal-printed}
+use Rattle.text_nest.specs.laws.Printing.{sheet_printed, refusal_printed}
 use borrow.Author.Rules.{rules}
 use Rattle.text_nest.proofs.print.Statement.{statement}
 use Rattle.text_nest.proofs.print.Tie as tie
@@ -32,8 +32,8 @@ same-length-2 c = search rules
 returns : tie.Need-returns
 returns c =
     let told = c.before.before.before.before.before.before in
-    sheet-printed (rw told.answer.given.1 at told.before.before.before.before.nest.ensures) refl
-    c.before.before.sheet-text.ensures
+    sheet_printed (rw told.answer.given.1 at told.before.before.before.before.nest.ensures) refl
+    c.before.before.sheet_text.ensures
 
 same-length-3 : tie.Need-same-length-3
 same-length-3 c = search rules
@@ -41,10 +41,10 @@ same-length-3 c = search rules
 same-length-4 : tie.Need-same-length-4
 same-length-4 c = search rules
 
-returns-2 : tie.Need-returns-2
-returns-2 c =
+returns_2 : tie.Need-returns-2
+returns_2 c =
     let told = c.before.before.before.before.before in
-    refusal-printed (rw told.answer2.given.1 at told.before.before.before.before.nest.ensures)
+    refusal_printed (rw told.answer2.given.1 at told.before.before.before.before.nest.ensures)
     (omega arith) (omega arith) c.before.before.refusal.ensures
 
 pub print-spec : {M : Type 1} → statement M
@@ -62,4 +62,4 @@ print-spec =
     returns
     same-length-3
     same-length-4
-    returns-2)
+    returns_2)

@@ -3,47 +3,47 @@ use Rattle.std.specs.Prelude.{◌≡◌, refl, List, ℕ, ◌<◌, length, take,
 use Rattle.std.proofs.Common.{take_at}
 use Rattle.meaning.specs.facts.Tests.{clash}
 use Rattle.format.specs.Store.{Answer, accepted, refused}
-use Rattle.store.specs.Loaded.{words-counted, words-after}
-use Rattle.nesting.specs.Sheet.{answer-words}
+use Rattle.store.specs.Loaded.{words_counted, words_after}
+use Rattle.nesting.specs.Sheet.{answer_words}
 use Rattle.text.specs.declared.Written.{Written}
-use Rattle.text.specs.Text.{refusal-text}
+use Rattle.text.specs.Text.{refusal_text}
 use Rattle.text.specs.Whole.{Whole}
 use Rattle.sheet.specs.Written.{lent}
 use Rattle.text_sheet.specs.Answers.{SheetPrinted}
-use Rattle.text_sheet.specs.laws.AnswerPrinted.{sheet-answered, sheet-room, refusal-answered, refusal-room}
+use Rattle.text_sheet.specs.laws.AnswerPrinted.{sheet_answered, sheet_room, refusal_answered, refusal_room}
 use Rattle.nester.specs.declared.SheetAnswer.TheVariants as nester
 use Rattle.nester.specs.Nests.{Nests}
 use Rattle.text_nest.specs.Prints.{Prints}
 
 module _ {store old new out out' text text' : List ℕ} {r : Written} where
-  pub sheet-printed : {n m : ℕ} → Nests store old new out out' (nester.Sheet n) → m ≡ n → SheetPrinted (take m out') text text' r
+  pub sheet_printed : {n m : ℕ} → Nests store old new out out' (nester.Sheet n) → m ≡ n → SheetPrinted (take m out') text text' r
       → Prints store old new out out' text text' r
-  sheet-printed {n} h same p = go (answer-words store (lent out)) refl h.ends.answer h.ends.words
+  sheet_printed {n} h same p = go (answer_words store (lent out)) refl h.ends.answer h.ends.words
     where
-      go : (b : Answer (List ℕ)) → answer-words store (lent out) ≡ b → accepted n ≡ words-counted b → out' ≡ words-after out b
+      go : (b : Answer (List ℕ)) → answer_words store (lent out) ≡ b → accepted n ≡ words_counted b → out' ≡ words_after out b
           → Prints store old new out out' text text' r
       go (accepted ws) e is d =
           let size : length ws ≡ n = cc in
           let front : take n out' ≡ ws = rw d (take_at ws (drop (length ws) out) n size) in
           let q : SheetPrinted ws text text' r = rw (same, front) at p in
           record {
-            whole = sheet-answered store (lent out) e q;
-            fits = λ a b. sheet-room store (lent out) e q a;
+            whole = sheet_answered store (lent out) e q;
+            fits = λ a b. sheet_room store (lent out) e q a;
             told = nester.Sheet n;
             nests = h;
           }
       go (refused k x) e is d = absurd (clash (cc))
 
-  pub refusal-printed : {n x : ℕ} → Nests store old new out out' (nester.Refused n x) → n < 65536 → x < 65536
-      → Whole (refusal-text n x) text text' r → Prints store old new out out' text text' r
-  refusal-printed {n} {x} h a b p =
+  pub refusal_printed : {n x : ℕ} → Nests store old new out out' (nester.Refused n x) → n < 65536 → x < 65536
+      → Whole (refusal_text n x) text text' r → Prints store old new out out' text text' r
+  refusal_printed {n} {x} h a b p =
       record {
-        whole = refusal-answered store (lent out) p (by (answer-words store (lent out)) h.ends.answer);
-        fits = λ i j. refusal-room store (lent out) p a b j;
+        whole = refusal_answered store (lent out) p (by (answer_words store (lent out)) h.ends.answer);
+        fits = λ i j. refusal_room store (lent out) p a b j;
         told = nester.Refused n x;
         nests = h;
       }
     where
-      by : (b : Answer (List ℕ)) → refused n x ≡ words-counted b → b ≡ refused n x
+      by : (b : Answer (List ℕ)) → refused n x ≡ words_counted b → b ≡ refused n x
       by (accepted ws) is = absurd (clash (cc))
       by (refused m y) is = cc

@@ -1,16 +1,16 @@
 use mathlib.Core.Path.{ap}
 use borrow.Author.Rules.{rules}
 use Rattle.text.specs.Text.{labeled}
-use Rattle.text.specs.laws.BufferLaws.{◌▸◌, of-text}
-use Rattle.text_parts.specs.Listing.{head-text}
+use Rattle.text.specs.laws.BufferLaws.{◌▸◌, of_text}
+use Rattle.text_parts.specs.Listing.{head_text}
 use Rattle.text_record.proofs.put_head.Statement.{statement}
 use Rattle.text_record.proofs.put_head.Tie as tie
 
 slice-aggregate-put-labeled : tie.Need-slice-aggregate-put-labeled
 slice-aggregate-put-labeled c = search rules
 
-region-count-requires : tie.Need-region-count-requires
-region-count-requires c κs = search rules
+region_count_requires : tie.Need-region-count-requires
+region_count_requires c κs = search rules
 
 cast-put-labeled : tie.Need-overflow-cast-put-labeled
 cast-put-labeled c = search rules
@@ -58,7 +58,7 @@ same_length : tie.Need-same-length
 same_length c = search rules
 
 returns : tie.Need-returns
-unfolding head-text labeled
+unfolding head_text labeled
 returns c =
     let at-put-numbers = c.before.before.before.before.before.before in
     let at-put-text = at-put-numbers.before.before.before.before in
@@ -69,9 +69,9 @@ returns c =
     let at-put-labeled = at_entry_lem.before.before.before.before.before in
     let at-region-count = at-put-labeled.before in
     λ g s.
-    of-text (ap (labeled "record regions ") (at-region-count.region-count.ensures g s)) at-put-labeled.put-labeled.ensures
-    ▸ of-text (ap (labeled " entry ") (at_entry_lem.entry.ensures g s)) at-put-labeled2.put-labeled2.ensures
-    ▸ of-text (ap (labeled " test ") (at-test-cost.test-cost.ensures g s)) at-put-labeled3.put-labeled3.ensures
+    of_text (ap (labeled "record regions ") (at-region-count.region_count.ensures g s)) at-put-labeled.put-labeled.ensures
+    ▸ of_text (ap (labeled " entry ") (at_entry_lem.entry.ensures g s)) at-put-labeled2.put-labeled2.ensures
+    ▸ of_text (ap (labeled " test ") (at-test-cost.test_cost.ensures g s)) at-put-labeled3.put-labeled3.ensures
     ▸ at-put-text.put-text.ensures
     ▸ at-put-numbers.put-numbers.ensures g s
     ▸ c.before.before.put_byte.ensures
@@ -81,7 +81,7 @@ put-head-spec =
     tie.close
     (tie.spec
     slice-aggregate-put-labeled
-    region-count-requires
+    region_count_requires
     cast-put-labeled
     put-labeled-requires
     slice-aggregate-put-labeled-2

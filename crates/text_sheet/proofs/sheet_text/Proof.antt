@@ -28,8 +28,8 @@ sheet-requires-2 c κs = search rules
 same-length-2 : tie.Need-same-length-2
 same-length-2 c = search rules
 
-returns-2 : tie.Need-returns-2
-returns-2 c = search rules
+returns_2 : tie.Need-returns-2
+returns_2 c = search rules
 
 pub sheet-text-spec : {M : Type 1} → statement M
 sheet-text-spec =
@@ -41,4 +41,4 @@ sheet-text-spec =
     slice-aggregate-sheet
     sheet-requires-2
     same-length-2
-    returns-2)
+    returns_2)

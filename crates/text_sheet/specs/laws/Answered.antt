@@ -11,20 +11,20 @@ use Rattle.meaning.specs.Text.{Text}
 use Rattle.text.specs.declared.Written.{Written}
 use Rattle.text.specs.declared.Written.TheVariants as answers
 use Rattle.text.specs.Buffer.{buffer, Wrote}
-use Rattle.text.specs.Whole.{Whole, written-to}
-use Rattle.text.specs.laws.WholeTexts.{whole, room-enough}
-use Rattle.nesting.specs.Sheet.{sheet-text}
-use Rattle.nesting.specs.decoding.Lines.{TypedSheet, as-sheet}
-use Rattle.nesting.specs.decoding.Decode.{Decoded, decoded, nothing, next_word, decode-as, decode-sheet, text-of-got, words-text}
+use Rattle.text.specs.Whole.{Whole, written_to}
+use Rattle.text.specs.laws.WholeTexts.{whole, room_enough}
+use Rattle.nesting.specs.Sheet.{sheet_text}
+use Rattle.nesting.specs.decoding.Lines.{TypedSheet, as_sheet}
+use Rattle.nesting.specs.decoding.Decode.{Decoded, decoded, nothing, next_word, decode_as, decode_sheet, text_of_got, words_text}
 use Rattle.text_cursor.specs.declared.cursor.SheetCursor.{SheetCursor}
 use Rattle.text_sheet.specs.declared.Printed.{Printed}
 use Rattle.text_sheet.specs.declared.Printed.TheVariants.{Line, Full, NoLine}
-use Rattle.text_cursor.specs.Lines.{TextReader, shown, decoded-sheet-text}
-use Rattle.text_cursor.specs.WordsToText.{PutsText, words-from, reading, read-text}
-use Rattle.text_cursor.specs.laws.WordsToTextSteps.{from-inside, from-beyond, missing}
+use Rattle.text_cursor.specs.Lines.{TextReader, shown, decoded_sheet_text}
+use Rattle.text_cursor.specs.WordsToText.{PutsText, words_from, reading, read_text}
+use Rattle.text_cursor.specs.laws.WordsToTextSteps.{from_inside, from_beyond, missing}
 use Rattle.text_sheet.specs.Answers.{text_of, LinePrinted, SheetPrinted}
 use Rattle.text_fields.specs.laws.Room.{WordsOf32Bits, Fits}
-use Rattle.text_sheet.specs.laws.LineRoom.{words-text-fits}
+use Rattle.text_sheet.specs.laws.LineRoom.{words_text_fits}
 
 same_rest : {a b : List ℕ} → ◌≡◌ {A = Decoded Unit} (decoded tt a) (decoded tt b) → a ≡ b
 same_rest e = cc
@@ -47,8 +47,8 @@ module _ {read : TextReader} {ws before after : List ℕ} {c d : SheetCursor} (p
       by_read : (x : Decoded Text) → read (drop c.at ws) ≡ x → Found read ws c.at
       by_read (decoded t rest) e = record { text = t; rest = rest; is = e; inside = inside }
       by_read nothing e =
-          absurd (missing (sym (p.words ∙ ap (λ x. read-text (reading read x)) (from-inside ws c.at inside) ∙ ap read-text e)
-          ∙ from-inside ws d.at l))
+          absurd (missing (sym (p.words ∙ ap (λ x. read_text (reading read x)) (from_inside ws c.at inside) ∙ ap read_text e)
+          ∙ from_inside ws d.at l))
 
   pub none_found : read [] ≡ nothing → length ws < d.at → read (drop c.at ws) ≡ nothing
   unfolding next_word
@@ -57,8 +57,8 @@ module _ {read : TextReader} {ws before after : List ℕ} {c d : SheetCursor} (p
       by_read : c.at ≤ length ws → (x : Decoded Text) → read (drop c.at ws) ≡ x → read (drop c.at ws) ≡ nothing
       by_read inside nothing e = e
       by_read inside (decoded t rest) e =
-          absurd (missing (sym (from-beyond ws d.at l)
-          ∙ (p.words ∙ ap (λ x. read-text (reading read x)) (from-inside ws c.at inside) ∙ ap read-text e)))
+          absurd (missing (sym (from_beyond ws d.at l)
+          ∙ (p.words ∙ ap (λ x. read_text (reading read x)) (from_inside ws c.at inside) ∙ ap read_text e)))
 
       by_place : (b : Bool) → leb c.at (length ws) ≡ b → read (drop c.at ws) ≡ nothing
       by_place true e = by_read (leb-true _ _ e) (read (drop c.at ws)) refl
@@ -66,51 +66,51 @@ module _ {read : TextReader} {ws before after : List ℕ} {c d : SheetCursor} (p
 
   -- What was found is written, and the next word stands behind it.
   module _ (f : Found read ws c.at) where
-    here : reading read (words-from ws c.at) ≡ decoded f.text f.rest
+    here : reading read (words_from ws c.at) ≡ decoded f.text f.rest
     unfolding next_word
-    here = ap (reading read) (from-inside ws c.at f.inside) ∙ f.is
+    here = ap (reading read) (from_inside ws c.at f.inside) ∙ f.is
 
-    pub found-written : Wrote (buffer before c.place) f.text (buffer after d.place)
-    found-written = p.bytes here
+    pub found_written : Wrote (buffer before c.place) f.text (buffer after d.place)
+    found_written = p.bytes here
 
-    pub found-next : d.at ≡ length ws - length f.rest
-    found-next = by_place (leb d.at (length ws)) refl
+    pub found_next : d.at ≡ length ws - length f.rest
+    found_next = by_place (leb d.at (length ws)) refl
       where
-        there : words-from ws d.at ≡ decoded tt f.rest
-        there = p.words ∙ ap read-text here
+        there : words_from ws d.at ≡ decoded tt f.rest
+        there = p.words ∙ ap read_text here
 
         by_place : (b : Bool) → leb d.at (length ws) ≡ b → d.at ≡ length ws - length f.rest
         by_place true e =
             let l : d.at ≤ length ws = leb-true _ _ e in
-            let same : drop d.at ws ≡ f.rest = same_rest (sym (from-inside ws d.at l) ∙ there) in
+            let same : drop d.at ws ≡ f.rest = same_rest (sym (from_inside ws d.at l) ∙ there) in
             omega (arith, simp length-drop at (ap length same))
-        by_place false e = absurd (missing (sym (from-beyond ws d.at (leb-false _ _ e)) ∙ there))
+        by_place false e = absurd (missing (sym (from_beyond ws d.at (leb-false _ _ e)) ∙ there))
 
 -- ---- a line
-line-written : ℕ → Written → Printed
-line-written next (answers.Bytes n) = Line next n
-line-written next answers.Full = Full
+line_written : ℕ → Written → Printed
+line_written next (answers.Bytes n) = Line next n
+line_written next answers.Full = Full
 
 module _ {read : TextReader} {ws : List ℕ} {at : ℕ} where
-  pub line-missing : {bytes : List ℕ} → read (drop at ws) ≡ nothing → LinePrinted read ws at bytes bytes NoLine
-  line-missing {bytes} e = record {
+  pub line_missing : {bytes : List ℕ} → read (drop at ws) ≡ nothing → LinePrinted read ws at bytes bytes NoLine
+  line_missing {bytes} e = record {
     answer = rw e refl;
     bytes = rw (e, take-nil (length bytes)) refl;
     fits = λ l full. clash (cc);
   }
 
-  pub line-printed : {before after : List ℕ} {d : SheetCursor} {r : Printed} → Fits 0 0 read → WordsOf32Bits ws → Found read ws at
+  pub line_printed : {before after : List ℕ} {d : SheetCursor} {r : Printed} → Fits 0 0 read → WordsOf32Bits ws → Found read ws at
       → PutsText read ws (record { at = at; place = 0 }) before after d → length after ≡ length before
       → r ≡ pick (leb d.place (length after)) (Line d.at d.place) Full → LinePrinted read ws at before after r
-  unfolding line-written
-  line-printed {before} {after} {d} {r} fit small f p size is =
+  unfolding line_written
+  line_printed {before} {after} {d} {r} fit small f p size is =
       let t = f.text in
-      let w = whole t before after d.place (found-written p f) in
+      let w = whole t before after d.place (found_written p f) in
       let by : r ≡ pick (leb (length t) (length before)) (Line (length ws - length f.rest) (length t)) Full =
       is ∙ ap (λ room. pick (leb d.place room) (Line d.at d.place) Full) size
-      ∙ ap (λ next. pick (leb d.place (length before)) (Line next d.place) Full) (found-next p f)
-      ∙ sym (over-tests _ (leb d.place (length before)) _ answers.Full) ∙ ap (line-written (length ws - length f.rest)) w.answer
-      ∙ over-tests _ (leb (length t) (length before)) _ answers.Full in
+      ∙ ap (λ next. pick (leb d.place (length before)) (Line next d.place) Full) (found_next p f)
+      ∙ sym (over_tests _ (leb d.place (length before)) _ answers.Full) ∙ ap (line_written (length ws - length f.rest)) w.answer
+      ∙ over_tests _ (leb (length t) (length before)) _ answers.Full in
       record {
         answer = by ∙ rw f.is refl;
         bytes = w.bytes ∙ rw f.is refl;
@@ -121,28 +121,28 @@ module _ {read : TextReader} {ws : List ℕ} {at : ℕ} where
             clash (cc);
       }
     where
-      over-tests : (next : ℕ) (b : Bool) (x y : Written) → line-written next (pick b x y) ≡ pick b (line-written next x)
-          (line-written next y)
-      over-tests next true x y = refl
-      over-tests next false x y = refl
+      over_tests : (next : ℕ) (b : Bool) (x y : Written) → line_written next (pick b x y) ≡ pick b (line_written next x)
+          (line_written next y)
+      over_tests next true x y = refl
+      over_tests next false x y = refl
 
 -- ---- a sheet
-pub words-text-read : (ws : List ℕ) → words-text ws ≡ text_of (decoded-sheet-text ws)
-unfolding words-text shown next_word
-words-text-read ws = by-sheet (decode-sheet ws)
+pub words_text_read : (ws : List ℕ) → words_text ws ≡ text_of (decoded_sheet_text ws)
+unfolding words_text shown next_word
+words_text_read ws = by_sheet (decode_sheet ws)
   where
-    by-sheet : (x : Decoded TypedSheet) → text-of-got x ≡ text_of (next_word x λ s. decode-as (sheet-text (as-sheet s)))
-    by-sheet (decoded s rest) = refl
-    by-sheet nothing = refl
+    by_sheet : (x : Decoded TypedSheet) → text_of_got x ≡ text_of (next_word x λ s. decode_as (sheet_text (as_sheet s)))
+    by_sheet (decoded s rest) = refl
+    by_sheet nothing = refl
 
-pub no-sheet : decoded-sheet-text [] ≡ nothing
-unfolding shown next_word decode-sheet
-no-sheet = refl
+pub no_sheet : decoded_sheet_text [] ≡ nothing
+unfolding shown next_word decode_sheet
+no_sheet = refl
 
 module _ {ws : List ℕ} where
-  pub sheet-missing : {bytes : List ℕ} → decoded-sheet-text ws ≡ nothing → SheetPrinted ws bytes bytes (answers.Bytes 0)
-  sheet-missing {bytes} e =
-      let none : words-text ws ≡ [] = words-text-read ws ∙ ap text_of e in
+  pub sheet_missing : {bytes : List ℕ} → decoded_sheet_text ws ≡ nothing → SheetPrinted ws bytes bytes (answers.Bytes 0)
+  sheet_missing {bytes} e =
+      let none : words_text ws ≡ [] = words_text_read ws ∙ ap text_of e in
       record {
         text = rw none (record {
           answer = rw (le-leb 0 (length bytes) (omega arith)) refl;
@@ -152,11 +152,11 @@ module _ {ws : List ℕ} where
         fits = λ l. rw none refl;
       }
 
-  pub sheet-printed : {before after : List ℕ} {d : SheetCursor} {r : Written} → WordsOf32Bits ws → Found decoded-sheet-text ws 0
-      → PutsText decoded-sheet-text ws (record { at = 0; place = 0 }) before after d → length after ≡ length before
-      → r ≡ written-to (length after) d.place → SheetPrinted ws before after r
-  sheet-printed {before} {after} {d} {r} small f p size is =
-      let text : words-text ws ≡ f.text = words-text-read ws ∙ ap text_of f.is in
-      let by : r ≡ written-to (length before) d.place = is ∙ ap (λ room. written-to room d.place) size in
-      let w : Whole (words-text ws) before after r = rw (text, by) (whole f.text before after d.place (found-written p f)) in
-      record { text = w; fits = λ l. room-enough w (omega (arith, words-text-fits ws small)) }
+  pub sheet_printed : {before after : List ℕ} {d : SheetCursor} {r : Written} → WordsOf32Bits ws → Found decoded_sheet_text ws 0
+      → PutsText decoded_sheet_text ws (record { at = 0; place = 0 }) before after d → length after ≡ length before
+      → r ≡ written_to (length after) d.place → SheetPrinted ws before after r
+  sheet_printed {before} {after} {d} {r} small f p size is =
+      let text : words_text ws ≡ f.text = words_text_read ws ∙ ap text_of f.is in
+      let by : r ≡ written_to (length before) d.place = is ∙ ap (λ room. written_to room d.place) size in
+      let w : Whole (words_text ws) before after r = rw (text, by) (whole f.text before after d.place (found_written p f)) in
+      record { text = w; fits = λ l. room_enough w (omega (arith, words_text_fits ws small)) }

@@ -2,7 +2,7 @@ use mathlib.Core.Path.{subst}
 use native.Mathlib.Omega.{arith}
 use borrow.Author.Rules.{rules}
 use Rattle.accept.specs.Accepts.{Accepts}
-use Rattle.text_show.specs.laws.Showing.{record-shown, refusal-shown}
+use Rattle.text_show.specs.laws.Showing.{record_shown, refusal_shown}
 use Rattle.text_show.proofs.show.Statement.{statement}
 use Rattle.text_show.proofs.show.Tie as tie
 
@@ -32,7 +32,7 @@ returns c =
     let at-shared-slice-known = at-accept.before.before.before in
     let at-args = at-shared-slice-known.before in
     let a = at-args.args in
-    record-shown a.bytes.now a.words.now at-accept.accept.new.1.0
+    record_shown a.bytes.now a.words.now at-accept.accept.new.1.0
     a.out.now _ _
     (λ k. omega (arith, at-shared-slice-known.shared-slice-known.given k))
     (subst (Accepts a.bytes.now a.words.now at-accept.accept.new.1.0)
@@ -43,15 +43,15 @@ returns c =
 same-length-2 : tie.Need-same-length-2
 same-length-2 c = search rules
 
-returns-2 : tie.Need-returns-2
-returns-2 c =
+returns_2 : tie.Need-returns-2
+returns_2 c =
     let at-refusal = c.before.before in
     let at-verdict = at-refusal.before.before.before in
     let at-accept = at-verdict.before.before in
     let at-shared-slice-known = at-accept.before.before.before in
     let at-args = at-shared-slice-known.before in
     let a = at-args.args in
-    refusal-shown a.bytes.now a.words.now at-accept.accept.new.1.0
+    refusal_shown a.bytes.now a.words.now at-accept.accept.new.1.0
     a.out.now _ _
     (λ k. omega (arith, at-shared-slice-known.shared-slice-known.given k)) _ _
     (subst (Accepts a.bytes.now a.words.now at-accept.accept.new.1.0)
@@ -71,4 +71,4 @@ show-spec =
     same_length
     returns
     same-length-2
-    returns-2)
+    returns_2)

@@ -10,43 +10,43 @@ use Rattle.record.specs.Outcome.{forget}
 use Rattle.record.specs.Stands.{OfRecord}
 use Rattle.text.specs.declared.Written.{Written}
 use Rattle.text.specs.declared.Written.TheVariants.{Bytes, Full}
-use Rattle.text.specs.Text.{refusal-text}
+use Rattle.text.specs.Text.{refusal_text}
 use Rattle.text.specs.Whole.{Whole, InFront}
-use Rattle.text.specs.laws.WholeTexts.{room-enough, in-front}
+use Rattle.text.specs.laws.WholeTexts.{room_enough, in_front}
 use Rattle.accept.specs.declared.Accepted.TheVariants.{Record, Refused}
 use Rattle.accept.specs.Accepts.{Accepts}
-use Rattle.text_parts.specs.Listing.{listing-of, shown-text}
-use Rattle.text_record.specs.laws.Fits.{shown-fits}
+use Rattle.text_parts.specs.Listing.{listing_of, shown_text}
+use Rattle.text_record.specs.laws.Fits.{shown_fits}
 use Rattle.text_show.specs.Shows.{Shows}
 
 module _ (s old new before after : List ℕ) (r : Written) (bytes : AllBytes s) where
-  always : Whole (shown-text (accept s)) before after r → 65536 ≤ length before → r ≡ Bytes (length (shown-text (accept s)))
-  always w l = room-enough w (omega (arith, shown-fits s bytes))
+  always : Whole (shown_text (accept s)) before after r → 65536 ≤ length before → r ≡ Bytes (length (shown_text (accept s)))
+  always w l = room_enough w (omega (arith, shown_fits s bytes))
 
-  pub record-shown : Accepts s old new Record → OfRecord new (λ g. Whole (listing-of g) before after r) → Shows s old new before after r
-  record-shown a h =
+  pub record_shown : Accepts s old new Record → OfRecord new (λ g. Whole (listing_of g) before after r) → Shows s old new before after r
+  record_shown a h =
       let text = by_answer (accept s) refl a.answer in
       record { text = text; fits = always text; verdict = Record; words = a }
     where
-      by_answer : (x : Answer Graph) → accept s ≡ x → accepted tt ≡ forget x → Whole (shown-text x) before after r
+      by_answer : (x : Answer Graph) → accept s ≡ x → accepted tt ≡ forget x → Whole (shown_text x) before after r
       by_answer (accepted g) q e = h g (a.stands g q)
       by_answer (refused n w) q e = absurd (clash (cc))
 
-  pub refusal-shown : (n w : ℕ) → Accepts s old new (Refused n w) → Whole (refusal-text n w) before after r → Shows s old new before after r
-  refusal-shown n w a h =
+  pub refusal_shown : (n w : ℕ) → Accepts s old new (Refused n w) → Whole (refusal_text n w) before after r → Shows s old new before after r
+  refusal_shown n w a h =
       let text = by_answer (accept s) a.answer in
       record { text = text; fits = always text; verdict = Refused n w; words = a }
     where
-      by_answer : (x : Answer Graph) → refused n w ≡ forget x → Whole (shown-text x) before after r
+      by_answer : (x : Answer Graph) → refused n w ≡ forget x → Whole (shown_text x) before after r
       by_answer (accepted g) e = absurd (clash (cc))
       by_answer (refused m v) e =
           let same : ◌≡◌ {A = Answer Graph} (refused n w) (refused m v) = cc in
-          subst (λ x. Whole (shown-text x) before after r) same h
+          subst (λ x. Whole (shown_text x) before after r) same h
 
-pub never-full : {s old new before after : List ℕ} {r : Written} → Shows s old new before after r → 65536 ≤ length before → r ≡ Full → ⊥
-never-full x l full = let whole = x.fits l in clash (cc)
+pub never_full : {s old new before after : List ℕ} {r : Written} → Shows s old new before after r → 65536 ≤ length before → r ≡ Full → ⊥
+never_full x l full = let whole = x.fits l in clash (cc)
 
 -- What is shown stands in front of the buffer.
-pub shown-front : {s old new before after : List ℕ} {r : Written} {n : ℕ} → Shows s old new before after r → r ≡ Bytes n
-    → InFront (shown-text (accept s)) after n
-shown-front x is = in-front x.text is
+pub shown_front : {s old new before after : List ℕ} {r : Written} {n : ℕ} → Shows s old new before after r → r ≡ Bytes n
+    → InFront (shown_text (accept s)) after n
+shown_front x is = in_front x.text is

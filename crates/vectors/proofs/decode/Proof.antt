@@ -3,15 +3,15 @@ use mathlib.Core.List.{◌++◌}
 use Prim.Native.Nat.{◌*◌, ◌-◌, ◌≤◌}
 use native.Mathlib.Omega.{arith}
 use lib.ListN.{length, take, drop, length-set}
-use Rattle.vectors.specs.Parts.{hex-bytes}
-use Rattle.vectors.proofs.Laws.{decoded-all, decoded-more}
+use Rattle.vectors.specs.Parts.{hex_bytes}
+use Rattle.vectors.proofs.Laws.{decoded_all, decoded_more}
 use borrow.Author.Rules.{rules}
 use Rattle.vectors.proofs.decode.Statement.{statement}
 use Rattle.vectors.proofs.decode.Tie as tie
 
 abbrev invariant-loop : tie.invariant-loop
 invariant-loop digits bytes₀ n₀ bytes n =
-    (2 * n ≤ length digits) × ((length bytes ≡ 32768) × (take n bytes ++ hex-bytes (drop (2 * n) digits) ≡ hex-bytes digits))
+    (2 * n ≤ length digits) × ((length bytes ≡ 32768) × (take n bytes ++ hex_bytes (drop (2 * n) digits) ≡ hex_bytes digits))
 
 abbrev decreases-loop : tie.decreases-loop
 decreases-loop digits bytes₀ n₀ bytes n = length digits - n
@@ -19,8 +19,8 @@ decreases-loop digits bytes₀ n₀ bytes n = length digits - n
 tells-length-requires : tie.Need-tells-length-requires invariant-loop decreases-loop
 tells-length-requires c κs = search rules
 
-loop-holds : tie.Need-loop-init invariant-loop decreases-loop
-loop-holds c = (omega arith, (c.before.tells-length-arg2.given.0, refl))
+loop_holds : tie.Need-loop-init invariant-loop decreases-loop
+loop_holds c = (omega arith, (c.before.tells-length-arg2.given.0, refl))
 
 mul-loop : tie.Need-overflow-mul-loop invariant-loop decreases-loop
 mul-loop c = search rules
@@ -52,21 +52,21 @@ element-write-bytes c = search rules
 add-n : tie.Need-overflow-add-n invariant-loop decreases-loop
 add-n c = search rules
 
-loop-less : tie.Need-loop-smaller invariant-loop decreases-loop
-loop-less c = search rules
+loop_less : tie.Need-loop-smaller invariant-loop decreases-loop
+loop_less c = search rules
 
-loop-again : tie.Need-loop-preserved invariant-loop decreases-loop
-loop-again c =
+loop_again : tie.Need-loop-preserved invariant-loop decreases-loop
+loop_again c =
     let at-loop-test = c.before.before.before in
     let at-loop = at-loop-test.before in
     let known = at-loop.loop.invariant in
-    let more = decoded-more _ _ _ known.1.1 at-loop-test.loop-test.true (omega arith) _ c.byte.ensures in
+    let more = decoded_more _ _ _ known.1.1 at-loop-test.loop-test.true (omega arith) _ c.byte.ensures in
     (omega arith, (simp length-set known.1.0, more))
 
 returns : tie.Need-returns invariant-loop decreases-loop
 returns c =
     let known = c.before.loop.invariant in
-    record { within = omega arith; room = known.1.0; bytes = decoded-all _ _ _ known.1.1 c.loop-test.false }
+    record { within = omega arith; room = known.1.0; bytes = decoded_all _ _ _ known.1.1 c.loop-test.false }
 
 pub decode-spec : {M : Type 1} → statement M
 decode-spec =
@@ -75,7 +75,7 @@ decode-spec =
     invariant-loop
     decreases-loop
     tells-length-requires
-    loop-holds
+    loop_holds
     mul-loop
     add-loop
     mul-byte
@@ -86,6 +86,6 @@ decode-spec =
     byte-requires
     element-write-bytes
     add-n
-    loop-less
-    loop-again
+    loop_less
+    loop_again
     returns)

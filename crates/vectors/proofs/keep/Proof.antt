@@ -23,8 +23,8 @@ returns c =
       within = λ h. omega arith;
     }
 
-returns-2 : tie.Need-returns-2
-returns-2 c =
+returns_2 : tie.Need-returns-2
+returns_2 c =
     let at-tells-length-arg2 = c.before.before.before in
     let start = at-tells-length-arg2.before.before in
     record {
@@ -34,4 +34,4 @@ returns-2 c =
     }
 
 pub keep_spec : {M : Type 1} → statement M
-keep_spec = tie.close (tie.spec tells-length-requires element-write-text add-t13 returns returns-2)
+keep_spec = tie.close (tie.spec tells-length-requires element-write-text add-t13 returns returns_2)

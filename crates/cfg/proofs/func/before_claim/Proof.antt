@@ -9,7 +9,7 @@ initial-state-requires : tie.Need-initial-state-requires
 initial-state-requires c κs = search rules
 
 returns : tie.Need-returns
-returns c = λ g st. record { counted = c.before.before.incoming-edge-counts.ensures g st; begun = c.initial-state.ensures g st }
+returns c = λ g st. record { counted = c.before.before.incoming_edge_counts.ensures g st; begun = c.initial_state.ensures g st }
 
 pub before-claim-spec : {M : Type 1} → statement M
 before-claim-spec =

@@ -3,82 +3,82 @@ use Rattle.std.specs.Prelude.{◌≡◌, refl, List, [], ◌∷◌, map, ℕ, ze
 use Rattle.std.proofs.Common.{ap, arith}
 use Rattle.meaning.specs.Graph.{Graph}
 use Rattle.meaning.specs.Lists.{pick}
-use Rattle.nesting.specs.Nesting.{DeferredTarget, to-region, to-return, DeferredEdgeBundleSet, MaybeClaimedRegion, ok, err, deferred-of}
+use Rattle.nesting.specs.Nesting.{DeferredTarget, to_region, to_return, DeferredEdgeBundleSet, MaybeClaimedRegion, ok, err, deferred_of}
 use Rattle.nesting.specs.Nesting.{NestState, StepAnswer, Body, same_target}
-use Rattle.follows.specs.counting.Totals.{edge-total, edges-to, totals, edgeless}
+use Rattle.follows.specs.counting.Totals.{edge_total, edges_to, totals, edgeless}
 use Rattle.state_words.specs.Sections.{word, head}
 use Rattle.state_words.specs.declared.defined.Made.{Made}
 use Rattle.state_shown.specs.Front.{SameKinds}
 use Rattle.state_shown.specs.Kept.{PreservesMade, KeptRegion}
-use Rattle.state_shown.specs.laws.RegionsKept.{preserves-then, kept_then}
-use Rattle.cfg_merging.specs.laws.shown.TargetsShown.{edges-of-set, edges-of-cases}
-use Rattle.cfg_merging.specs.laws.shown.RewritingShown.{bundle-found, case-found, cases-after}
-use Rattle.cfg_select_nodes.specs.laws.shown.RegionsShown.{ShowsMade, shows-made, shows-refused}
+use Rattle.state_shown.specs.laws.RegionsKept.{preserves_then, kept_then}
+use Rattle.cfg_merging.specs.laws.shown.TargetsShown.{edges_of_set, edges_of_cases}
+use Rattle.cfg_merging.specs.laws.shown.RewritingShown.{bundle_found, case_found, cases_after}
+use Rattle.cfg_select_nodes.specs.laws.shown.RegionsShown.{ShowsMade, shows_made, shows_refused}
 use Rattle.cfg_selects.specs.laws.shown.IntoShown.{IntoDone}
-use Rattle.cfg.specs.laws.shown.Shows.{BodyShows, owed-stays, refuses-body, shows-body}
+use Rattle.cfg.specs.laws.shown.Shows.{BodyShows, owed_stays, refuses_body, shows_body}
 use Rattle.state_words.specs.Rows.{cells_at, largest}
 
 -- ---- Rewriting keeps targets and counts.
 set_after : (s : NestState) (x : DeferredTarget) (d : DeferredEdgeBundleSet)
-    → edges-of-set x (map (λ e. (bundle-found s e).value) d) ≡ edges-of-set x d
+    → edges_of_set x (map (λ e. (bundle_found s e).value) d) ≡ edges_of_set x d
 set_after s x [] = refl
 set_after s x (e ∷ d) = rw (set_after s x d)
 
-case-after : (s : NestState) (x : DeferredTarget) (c : MaybeClaimedRegion)
-    → edges-of-set x (deferred-of (case-found s c).value) ≡ edges-of-set x (deferred-of c)
-case-after s x (ok c) = set_after s x c.deferred-edges
-case-after s x (err d) = set_after s x d
+case_after : (s : NestState) (x : DeferredTarget) (c : MaybeClaimedRegion)
+    → edges_of_set x (deferred_of (case_found s c).value) ≡ edges_of_set x (deferred_of c)
+case_after s x (ok c) = set_after s x c.deferred_edges
+case_after s x (err d) = set_after s x d
 
-same_after : (s : NestState) (x : DeferredTarget) (cs : List MaybeClaimedRegion) → edges-of-cases x (cases-after s cs) ≡ edges-of-cases x cs
+same_after : (s : NestState) (x : DeferredTarget) (cs : List MaybeClaimedRegion) → edges_of_cases x (cases_after s cs) ≡ edges_of_cases x cs
 same_after s x [] = refl
-same_after s x (c ∷ cs) = rw (case-after s x c, same_after s x cs)
+same_after s x (c ∷ cs) = rw (case_after s x c, same_after s x cs)
 
 -- ---- The edges to a region; to a Return there are none.
-one-to : (q : ℕ) (x : DeferredTarget) (n : ℕ) → pick (same_target (to-region q) x) n 0 ≡ edges-to q x n
-one-to q (to-region p) n = refl
-one-to q to-return n = refl
+one_to : (q : ℕ) (x : DeferredTarget) (n : ℕ) → pick (same_target (to_region q) x) n 0 ≡ edges_to q x n
+one_to q (to_region p) n = refl
+one_to q to_return n = refl
 
-set_to : (q : ℕ) (d : DeferredEdgeBundleSet) → edges-of-set (to-region q) d ≡ edge-total (edges-to q) d
+set_to : (q : ℕ) (d : DeferredEdgeBundleSet) → edges_of_set (to_region q) d ≡ edge_total (edges_to q) d
 set_to q [] = refl
-set_to q (e ∷ d) = rw (one-to q e.target e.accumulated-count, set_to q d)
+set_to q (e ∷ d) = rw (one_to q e.target e.accumulated_count, set_to q d)
 
-cases-to : (q : ℕ) (cs : List MaybeClaimedRegion) → edges-of-cases (to-region q) cs ≡ totals (edges-to q) cs
-cases-to q [] = refl
-cases-to q (c ∷ cs) = rw (set_to q (deferred-of c), cases-to q cs)
+cases_to : (q : ℕ) (cs : List MaybeClaimedRegion) → edges_of_cases (to_region q) cs ≡ totals (edges_to q) cs
+cases_to q [] = refl
+cases_to q (c ∷ cs) = rw (set_to q (deferred_of c), cases_to q cs)
 
-one-return : (x : DeferredTarget) (n : ℕ) → edgeless x n ≡ 0 → pick (same_target to-return x) n 0 ≡ 0
-one-return (to-region p) n e = refl
-one-return to-return zero e = refl
-one-return to-return (suc n) e = absurd (omega arith)
+one_return : (x : DeferredTarget) (n : ℕ) → edgeless x n ≡ 0 → pick (same_target to_return x) n 0 ≡ 0
+one_return (to_region p) n e = refl
+one_return to_return zero e = refl
+one_return to_return (suc n) e = absurd (omega arith)
 
-set-returns : (d : DeferredEdgeBundleSet) → edge-total edgeless d ≡ 0 → edges-of-set to-return d ≡ 0
-set-returns [] e = refl
-set-returns (x ∷ d) e =
-    let y = one-return x.target x.accumulated-count (omega arith) in let z = set-returns d (omega arith) in omega arith
+set_returns : (d : DeferredEdgeBundleSet) → edge_total edgeless d ≡ 0 → edges_of_set to_return d ≡ 0
+set_returns [] e = refl
+set_returns (x ∷ d) e =
+    let y = one_return x.target x.accumulated_count (omega arith) in let z = set_returns d (omega arith) in omega arith
 
-cases-return : (cs : List MaybeClaimedRegion) → totals edgeless cs ≡ 0 → edges-of-cases to-return cs ≡ 0
-cases-return [] e = refl
-cases-return (c ∷ cs) e =
-    let y = set-returns (deferred-of c) (omega arith) in let z = cases-return cs (omega arith) in omega arith
+cases_return : (cs : List MaybeClaimedRegion) → totals edgeless cs ≡ 0 → edges_of_cases to_return cs ≡ 0
+cases_return [] e = refl
+cases_return (c ∷ cs) e =
+    let y = set_returns (deferred_of c) (omega arith) in let z = cases_return cs (omega arith) in omega arith
 
-pub edges-bound : (s : NestState) (cs : List MaybeClaimedRegion) → ((q : ℕ) → totals (edges-to q) cs ≤ largest) → totals edgeless cs ≡ 0
-    → (x : DeferredTarget) → edges-of-cases x (cases-after s cs) ≤ largest
-edges-bound s cs most none (to-region q) = rw (same_after s (to-region q) cs, cases-to q cs) (most q)
-edges-bound s cs most none to-return = rw (same_after s to-return cs, cases-return cs none) (omega arith)
+pub edges_bound : (s : NestState) (cs : List MaybeClaimedRegion) → ((q : ℕ) → totals (edges_to q) cs ≤ largest) → totals edgeless cs ≡ 0
+    → (x : DeferredTarget) → edges_of_cases x (cases_after s cs) ≤ largest
+edges_bound s cs most none (to_region q) = rw (same_after s (to_region q) cs, cases_to q cs) (most q)
+edges_bound s cs most none to_return = rw (same_after s to_return cs, cases_return cs none) (omega arith)
 
 -- ---- From w to w₁ the cases were filled, from w₁ to w' the select made.
-pub into-body : {g : Graph} {w w₁ w' : List ℕ} {r more : ℕ} {cs : List MaybeClaimedRegion} {b : StepAnswer Body} {a : Made}
+pub into_body : {g : Graph} {w w₁ w' : List ℕ} {r more : ℕ} {cs : List MaybeClaimedRegion} {b : StepAnswer Body} {a : Made}
     → PreservesMade g w w₁
     → ((q : ℕ) → q < length g.regions → (q ≡ r → ⊥) → KeptRegion w w₁ q) → SameKinds w w'
     → word w₁ head cells_at + (length cs + 2) ≤ word w head cells_at + more → ShowsMade (IntoDone g r cs w₁ w') a b
     → BodyShows g w w' r cs more b a
-into-body {g} {w} {w'} made-stays kept same room (shows-made {a = x} {s} m) =
-    let owed = owed-stays g w w' (λ q h. ap (λ l. get_or l q 0) same.kinds-words) in
+into_body {g} {w} {w'} made_stays kept same room (shows_made {a = x} {s} m) =
+    let owed = owed_stays g w w' (λ q h. ap (λ l. get_or l q 0) same.kinds_words) in
     let total = m.total in
-    shows-body {x = x} {s' = s} refl m.state m.body
+    shows_body {x = x} {s' = s} refl m.state m.body
     (record {
-      made-stays = preserves-then made-stays m.made-stays;
-      kinds-stay = λ q h. ap (λ l. get_or l q 0) same.kinds-words;
-      regions-stay = λ q l d f h. kept_then (kept q l d) (m.kept q l d f);
+      made_stays = preserves_then made_stays m.made_stays;
+      kinds_stay = λ q h. ap (λ l. get_or l q 0) same.kinds_words;
+      regions_stay = λ q l d f h. kept_then (kept q l d) (m.kept q l d f);
     }) (omega arith)
-into-body made-stays kept same room shows-refused = refuses-body refl
+into_body made_stays kept same room shows_refused = refuses_body refl

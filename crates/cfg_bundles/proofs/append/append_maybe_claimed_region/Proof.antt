@@ -1,5 +1,5 @@
-use Rattle.cfg_bundles.specs.laws.paths.Paths.{append-claimed, append-edge}
-use Rattle.cfg_bundles.specs.EdgesAndCases.{its-rest}
+use Rattle.cfg_bundles.specs.laws.paths.Paths.{append_claimed, append_edge}
+use Rattle.cfg_bundles.specs.EdgesAndCases.{its_rest}
 use borrow.Author.Rules.{rules}
 use Rattle.cfg_bundles.proofs.append.append_maybe_claimed_region.Statement.{statement}
 use Rattle.cfg_bundles.proofs.append.append_maybe_claimed_region.Tie as tie
@@ -32,8 +32,8 @@ returns c =
     let at_join = at-set-children.before.before in
     let at-children = at_join.before.before.before in
     let entered = at-children.before.before in
-    append-claimed _ _ _ _ entered.before.before.before.before.before.if1.true
-    entered.before.before.before.case-inputs.ensures entered.insert-rewrites.ensures
+    append_claimed _ _ _ _ entered.before.before.before.before.before.if1.true
+    entered.before.before.before.case_inputs.ensures entered.insert_rewrites.ensures
     at-children.children.ensures
     at_join.join.ensures at-set-children.set-children.ensures
     at-swap-sets.swap-sets.ensures c.put-set-length.ensures
@@ -50,22 +50,22 @@ copy-bundle-requires c κs = search rules
 put-set-length-requires-2 : tie.Need-put-set-length-requires-2
 put-set-length-requires-2 c κs = search rules
 
-returns-2 : tie.Need-returns-2
-returns-2 c =
+returns_2 : tie.Need-returns-2
+returns_2 c =
     let at-copy-bundle = c.before.before in
     let at-bundle-at = at-copy-bundle.before.before in
     let at-set-start = at-bundle-at.before in
     let at-if = at-set-start.before.before in
-    append-edge _ _ _ _ at-if.if2.true
-    at-set-start.set-start.ensures at-bundle-at.bundle-at.ensures
+    append_edge _ _ _ _ at-if.if2.true
+    at-set-start.set_start.ensures at-bundle-at.bundle_at.ensures
     at-copy-bundle.copy-bundle.ensures
     c.put-set-length2.ensures
 
 put-set-length-requires-3 : tie.Need-put-set-length-requires-3
 put-set-length-requires-3 c κs = search rules
 
-returns-3 : tie.Need-returns-3
-returns-3 c = its-rest c.before.before.before.if1.false c.before.before.if2.false c.put-set-length3.ensures
+returns_3 : tie.Need-returns-3
+returns_3 c = its_rest c.before.before.before.if1.false c.before.before.if2.false c.put-set-length3.ensures
 
 pub append-maybe-claimed-region-spec : {M : Type 1} → statement M
 append-maybe-claimed-region-spec =
@@ -83,6 +83,6 @@ append-maybe-claimed-region-spec =
     bundle-at-requires
     copy-bundle-requires
     put-set-length-requires-2
-    returns-2
+    returns_2
     put-set-length-requires-3
-    returns-3)
+    returns_3)

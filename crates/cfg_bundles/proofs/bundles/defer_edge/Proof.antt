@@ -3,8 +3,8 @@ use borrow.Author.Rules.{rules}
 use Rattle.cfg_bundles.proofs.bundles.defer_edge.Statement.{statement}
 use Rattle.cfg_bundles.proofs.bundles.defer_edge.Tie as tie
 
-target-requires : tie.Need-target-requires
-target-requires c κs = search rules
+target_requires : tie.Need-target-requires
+target_requires c κs = search rules
 
 passed-inputs-requires : tie.Need-passed-inputs-requires
 passed-inputs-requires c κs = search rules
@@ -14,8 +14,8 @@ put-bundle-requires c κs = search rules
 
 returns : tie.Need-returns
 returns c g s = edge_by g _ _ _ _ (c.before.before.before.before.before.target.ensures g s)
-    (c.before.before.before.passed-inputs.ensures g s) c.put-bundle.ensures
+    (c.before.before.before.passed_inputs.ensures g s) c.put-bundle.ensures
 
 pub defer-edge-spec : {M : Type 1} → statement M
 defer-edge-spec =
-    tie.close (tie.spec target-requires passed-inputs-requires put-bundle-requires returns)
+    tie.close (tie.spec target_requires passed-inputs-requires put-bundle-requires returns)

@@ -1,4 +1,4 @@
-use Rattle.cfg_bundles.specs.laws.paths.Paths.{return-by}
+use Rattle.cfg_bundles.specs.laws.paths.Paths.{return_by}
 use borrow.Author.Rules.{rules}
 use Rattle.cfg_bundles.proofs.bundles.defer_return.Statement.{statement}
 use Rattle.cfg_bundles.proofs.bundles.defer_return.Tie as tie
@@ -28,8 +28,8 @@ returns c g s =
     let at-returned-inputs = at_zero.before.before in
     let at-bundle-at = at-returned-inputs.before.before in
     let at-set-start = at-bundle-at.before in
-    return-by g _ _ at-set-start.set-start.ensures
-    at-bundle-at.bundle-at.ensures
+    return_by g _ _ at-set-start.set_start.ensures
+    at-bundle-at.bundle_at.ensures
     (at-returned-inputs.returned-inputs.ensures g s)
     at_zero.zero.ensures at-put-bundle.put-bundle.ensures c.put-set-length.ensures
 

@@ -1,4 +1,4 @@
-use Rattle.cfg_bundles.specs.laws.paths.Paths.{run-then}
+use Rattle.cfg_bundles.specs.laws.paths.Paths.{run_then}
 use mathlib.Core.List.{[], ◌∷◌}
 use Rattle.state_words.specs.Sections.{bundles}
 use Rattle.state_words.specs.Totals.{edges_word}
@@ -13,7 +13,7 @@ set-target-inputs-requires : tie.Need-set-target-inputs-requires
 set-target-inputs-requires c κs = search rules
 
 returns : tie.Need-returns
-returns c = run-then _ bundles _
+returns c = run_then _ bundles _
     (c.before.before.before.before.args.t ∷ edges_word c.before.before.before.before.args.n.0
     ∷ c.before.before.before.before.args.c ∷ []) _ c.before.before.set-bundle.ensures c.set-target-inputs.ensures
 

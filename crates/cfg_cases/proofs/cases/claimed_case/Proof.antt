@@ -11,16 +11,16 @@ children-requires c κs = search rules
 set-start-requires : tie.Need-set-start-requires
 set-start-requires c κs = search rules
 
-set-length-requires : tie.Need-set-length-requires
-set-length-requires c κs = search rules
+set_length_requires : tie.Need-set-length-requires
+set_length_requires c κs = search rules
 
 returns : tie.Need-returns
 returns c =
     rw (
-      c.before.before.before.structured-body.ensures,
+      c.before.before.before.structured_body.ensures,
       c.before.before.children.ensures,
-      c.before.set-start.ensures,
-      c.set-length.ensures,
+      c.before.set_start.ensures,
+      c.set_length.ensures,
     )
 
 pub claimed-case-spec : {M : Type 1} → statement M
@@ -30,5 +30,5 @@ claimed-case-spec =
     structured-body-requires
     children-requires
     set-start-requires
-    set-length-requires
+    set_length_requires
     returns)

@@ -9,8 +9,8 @@ set-start-requires c κs = search rules
 bundle-at-requires : tie.Need-bundle-at-requires
 bundle-at-requires c κs = search rules
 
-target-requires : tie.Need-target-requires
-target-requires c κs = search rules
+target_requires : tie.Need-target-requires
+target_requires c κs = search rules
 
 claimed-case-requires : tie.Need-claimed-case-requires
 claimed-case-requires c κs = search rules
@@ -21,8 +21,8 @@ given-inputs-requires c κs = search rules
 shift-remove-requires : tie.Need-shift-remove-requires
 shift-remove-requires c κs = search rules
 
-set-length-requires : tie.Need-set-length-requires
-set-length-requires c κs = search rules
+set_length_requires : tie.Need-set-length-requires
+set_length_requires c κs = search rules
 
 set-case-count-requires : tie.Need-set-case-count-requires
 set-case-count-requires c κs = search rules
@@ -47,13 +47,13 @@ returns c g s =
     let at_Target = at-claimed-case.before in
     let at-bundle-at = at_Target.before.before in
     let at-set-start = at-bundle-at.before in
-    split_by g _ _ _ at-set-start.set-start.ensures
-    at-bundle-at.bundle-at.ensures
-    at_Target.target.ensures at-claimed-case.claimed-case.ensures
-    (at-given-inputs.given-inputs.ensures g s)
-    read.shift-remove.ensures at-set-length.set-length.ensures
+    split_by g _ _ _ at-set-start.set_start.ensures
+    at-bundle-at.bundle_at.ensures
+    at_Target.target.ensures at-claimed-case.claimed_case.ensures
+    (at-given-inputs.given_inputs.ensures g s)
+    read.shift-remove.ensures at-set-length.set_length.ensures
     at-set-case-count.set-case-count.ensures
-    at-put-case.put-case.ensures c.before.unclaimed-case.ensures c.set-case.ensures
+    at-put-case.put-case.ensures c.before.unclaimed_case.ensures c.set-case.ensures
 
 pub fill-claimed-and-others-spec : {M : Type 1} → statement M
 fill-claimed-and-others-spec =
@@ -61,11 +61,11 @@ fill-claimed-and-others-spec =
     (tie.spec
     set-start-requires
     bundle-at-requires
-    target-requires
+    target_requires
     claimed-case-requires
     given-inputs-requires
     shift-remove-requires
-    set-length-requires
+    set_length_requires
     set-case-count-requires
     put-case-requires
     unclaimed-case-requires

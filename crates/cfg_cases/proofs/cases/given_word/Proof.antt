@@ -11,9 +11,9 @@ returns : tie.Need-returns
 unfolding given_word
 returns c = rw (lt-ltb _ _ c.before.if1.true) c.target-input.ensures
 
-returns-2 : tie.Need-returns-2
+returns_2 : tie.Need-returns-2
 unfolding given_word
-returns-2 c = rw (le-ltb _ _ c.if1.false)
+returns_2 c = rw (le-ltb _ _ c.if1.false)
 
 pub given-word-spec : {M : Type 1} → statement M
-given-word-spec = tie.close (tie.spec target-input-requires returns returns-2)
+given-word-spec = tie.close (tie.spec target-input-requires returns returns_2)

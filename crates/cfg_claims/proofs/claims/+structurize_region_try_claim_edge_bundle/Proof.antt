@@ -5,8 +5,8 @@ use Rattle.cfg_claims.proofs.claims.+structurize_region_try_claim_edge_bundle as
 use cycle.Proof.Base.{μ-structurize-region, μ-try-claim-edge-bundle, structurize-region-at, try-claim-edge-bundle-at}
 use cycle.Proof.Region as region
 use cycle.Proof.Claim as claim
-use Rattle.cfg_claims.proofs.claims.structurize_region.Reads as structurize-region
-use Rattle.cfg_claims.proofs.claims.try_claim_edge_bundle.Reads as try-claim-edge-bundle
+use Rattle.cfg_claims.proofs.claims.structurize_region.Reads as structurize_region
+use Rattle.cfg_claims.proofs.claims.try_claim_edge_bundle.Reads as try_claim_edge_bundle
 use cycle.Lts-structurize_region as structurize-region-lts
 use cycle.Lts-try_claim_edge_bundle as try-claim-edge-bundle-lts
 use cycle.{statement}
@@ -20,7 +20,7 @@ pub +structurize-region-try-claim-edge-bundle-spec : {M : Type 1} → statement 
     (λ t. structurize-region-lts.spec
     (region.called t)
     (structurize-region-at t)
-    structurize-region.Post
+    structurize_region.Post
     region.Inv-targets
     region.μ-targets
     region.Inv-scan
@@ -72,7 +72,7 @@ pub +structurize-region-try-claim-edge-bundle-spec : {M : Type 1} → statement 
     λ t. try-claim-edge-bundle-lts.spec
     (claim.called t)
     (try-claim-edge-bundle-at t)
-    try-claim-edge-bundle.Post
+    try_claim_edge_bundle.Post
     (claim.count-attempt-requires t)
     (claim.returns t)
     (claim.region-state-requires t)

@@ -2,18 +2,18 @@ use mathlib.Core.Path.{◌≡◌}
 use Prim.Native.Nat.{◌-◌, ◌≤◌}
 use native.Mathlib.Omega.{arith}
 use lib.ListN.{get_or}
-use Rattle.state_regions.specs.RegionTables.{case-total}
-use Rattle.cfg_planning.specs.Planning.{per-case-condition}
-use Rattle.cfg_planning.specs.laws.paths.PlanningLaws.{few-total}
+use Rattle.state_regions.specs.RegionTables.{case_total}
+use Rattle.cfg_planning.specs.Planning.{per_case_condition}
+use Rattle.cfg_planning.specs.laws.paths.PlanningLaws.{few_total}
 use Rattle.cfg_emits.specs.Emits.{InCases}
-use Rattle.cfg_emits.specs.laws.paths.EmitsLaws.{in-none, in-more, in_all}
+use Rattle.cfg_emits.specs.laws.paths.EmitsLaws.{in_none, in_more, in_all}
 use borrow.Author.Rules.{rules}
 use Rattle.cfg_emits.proofs.emit.conditions_in_cases.Statement.{statement}
 use Rattle.cfg_emits.proofs.emit.conditions_in_cases.Tie as tie
 use Rattle.state_words.specs.Values.{parts}
 
 abbrev invariant-loop : tie.invariant-loop
-invariant-loop w places n parts₀ j₀ parts j = (n ≡ case-total w) × (n ≤ 8) × (j ≤ n) × InCases j (λ i. per-case-condition w i (get_or places i 0)) 0
+invariant-loop w places n parts₀ j₀ parts j = (n ≡ case_total w) × (n ≤ 8) × (j ≤ n) × InCases j (λ i. per_case_condition w i (get_or places i 0)) 0
     parts
 
 abbrev decreases-loop : tie.decreases-loop
@@ -22,8 +22,8 @@ decreases-loop w places n parts₀ j₀ parts j = n - j
 case-count-requires : tie.Need-case-count-requires invariant-loop decreases-loop
 case-count-requires c κs = search rules
 
-loop-holds : tie.Need-loop-init invariant-loop decreases-loop
-loop-holds c = (c.case_count.ensures, few-total _ _ c.case_count.ensures, omega arith, in-none _ 0)
+loop_holds : tie.Need-loop-init invariant-loop decreases-loop
+loop_holds c = (c.case_count.ensures, few_total _ _ c.case_count.ensures, omega arith, in_none _ 0)
 
 cast-p : tie.Need-overflow-cast-p invariant-loop decreases-loop
 cast-p c = search rules
@@ -46,18 +46,18 @@ mul-parts c = search rules
 array-write-parts : tie.Need-array-write-parts invariant-loop decreases-loop
 array-write-parts c = search rules
 
-add-j : tie.Need-overflow-add-j invariant-loop decreases-loop
-add-j c = search rules
+add_j : tie.Need-overflow-add-j invariant-loop decreases-loop
+add_j c = search rules
 
-loop-less : tie.Need-loop-smaller invariant-loop decreases-loop
-loop-less c = search rules
+loop_less : tie.Need-loop-smaller invariant-loop decreases-loop
+loop_less c = search rules
 
-loop-again : tie.Need-loop-preserved invariant-loop decreases-loop
-loop-again c = (
+loop_again : tie.Need-loop-preserved invariant-loop decreases-loop
+loop_again c = (
   c.before.before.before.loop.invariant.0,
   c.before.before.before.loop.invariant.1,
   omega arith,
-  in-more c.before.before.before.loop.invariant.3 (omega arith) c.per-case-condition.ensures,
+  in_more c.before.before.before.loop.invariant.3 (omega arith) c.per_case_condition.ensures,
 )
 
 returns : tie.Need-returns invariant-loop decreases-loop
@@ -70,7 +70,7 @@ conditions-in-cases-spec =
     invariant-loop
     decreases-loop
     case-count-requires
-    loop-holds
+    loop_holds
     cast-p
     mul-p
     element-copy-out-p
@@ -78,7 +78,7 @@ conditions-in-cases-spec =
     cast-parts
     mul-parts
     array-write-parts
-    add-j
-    loop-less
-    loop-again
+    add_j
+    loop_less
+    loop_again
     returns)

@@ -1,10 +1,10 @@
-use Rattle.cfg_emits.specs.laws.paths.EmitsLaws.{bundle-refused, bundle-made}
+use Rattle.cfg_emits.specs.laws.paths.EmitsLaws.{bundle_refused, bundle_made}
 use borrow.Author.Rules.{rules}
 use Rattle.cfg_emits.proofs.emit.emit_bundle.Statement.{statement}
 use Rattle.cfg_emits.proofs.emit.emit_bundle.Tie as tie
 
-target-requires : tie.Need-target-requires
-target-requires c κs = search rules
+target_requires : tie.Need-target-requires
+target_requires c κs = search rules
 
 per-case-deferred-requires : tie.Need-per-case-deferred-requires
 per-case-deferred-requires c κs = search rules
@@ -24,40 +24,40 @@ returns c =
     let at-select-node = at-emit-inputs.before.before.before in
     let at-per-case-deferred = at-select-node.before.before in
     let at_Target = at-per-case-deferred.before in
-    bundle-refused _ _ _ at_Target.target.ensures
-    at-per-case-deferred.per-case-deferred.ensures
-    at-select-node.select-node.ensures
-    at-emit-inputs.emit-inputs.ensures c.enum_told.given.1
+    bundle_refused _ _ _ at_Target.target.ensures
+    at-per-case-deferred.per_case_deferred.ensures
+    at-select-node.select_node.ensures
+    at-emit-inputs.emit_inputs.ensures c.enum_told.given.1
 
-enum-told-2 : tie.Need-enum-told-2
-enum-told-2 c = search rules
+enum_told_2 : tie.Need-enum-told-2
+enum_told_2 c = search rules
 
 emit-condition-requires : tie.Need-emit-condition-requires
 emit-condition-requires c κs = search rules
 
-returns-2 : tie.Need-returns-2
-returns-2 c =
+returns_2 : tie.Need-returns-2
+returns_2 c =
     let at-enum-told = c.before.before.before in
     let at-emit-inputs = at-enum-told.before.before in
     let at-select-node = at-emit-inputs.before.before.before in
     let at-per-case-deferred = at-select-node.before.before in
     let at_Target = at-per-case-deferred.before in
-    bundle-made _ _ _ at_Target.target.ensures
-    at-per-case-deferred.per-case-deferred.ensures
-    at-select-node.select-node.ensures
-    at-emit-inputs.emit-inputs.ensures at-enum-told.enum-told2.given.1
-    c.emit-condition.ensures
+    bundle_made _ _ _ at_Target.target.ensures
+    at-per-case-deferred.per_case_deferred.ensures
+    at-select-node.select_node.ensures
+    at-emit-inputs.emit_inputs.ensures at-enum-told.enum-told2.given.1
+    c.emit_condition.ensures
 
 pub emit-bundle-spec : {M : Type 1} → statement M
 emit-bundle-spec =
     tie.close
     (tie.spec
-    target-requires
+    target_requires
     per-case-deferred-requires
     select-node-requires
     emit-inputs-requires
     enum_told
     returns
-    enum-told-2
+    enum_told_2
     emit-condition-requires
-    returns-2)
+    returns_2)

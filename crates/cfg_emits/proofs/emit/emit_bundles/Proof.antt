@@ -1,9 +1,9 @@
 use Prim.Native.Nat.{◌-◌, ◌≤◌}
 use native.Mathlib.Omega.{arith}
 use Rattle.cfg_select_nodes.specs.Turns.{GoesOnBy}
-use Rattle.cfg_select_nodes.specs.laws.paths.TurnsLaws.{begins-by, turned_by, refused-by, over_by}
+use Rattle.cfg_select_nodes.specs.laws.paths.TurnsLaws.{begins_by, turned_by, refused_by, over_by}
 use Rattle.cfg_emits.specs.Emits.{EmitAt}
-use Rattle.cfg_emits.specs.laws.paths.EmitsLaws.{emits-by, bundles-leave}
+use Rattle.cfg_emits.specs.laws.paths.EmitsLaws.{emits_by, bundles_leave}
 use borrow.Author.Rules.{rules}
 use Rattle.cfg_emits.proofs.emit.emit_bundles.Statement.{statement}
 use Rattle.cfg_emits.proofs.emit.emit_bundles.Tie as tie
@@ -17,11 +17,11 @@ decreases-loop w₀ h start n i₀ w i = n - i
 set-start-requires : tie.Need-set-start-requires invariant-loop decreases-loop
 set-start-requires c κs = search rules
 
-set-length-requires : tie.Need-set-length-requires invariant-loop decreases-loop
-set-length-requires c κs = search rules
+set_length_requires : tie.Need-set-length-requires invariant-loop decreases-loop
+set_length_requires c κs = search rules
 
-loop-holds : tie.Need-loop-init invariant-loop decreases-loop
-loop-holds c = (omega arith, begins-by _ _ _)
+loop_holds : tie.Need-loop-init invariant-loop decreases-loop
+loop_holds c = (omega arith, begins_by _ _ _)
 
 bundle-at-requires : tie.Need-bundle-at-requires invariant-loop decreases-loop
 bundle-at-requires c κs = search rules
@@ -40,35 +40,35 @@ returns c =
     let at-loop = at-loop-test.before in
     let at-set-length = at-loop.before in
     let at-set-start = at-set-length.before.before in
-    emits-by _ _ at-set-start.set-start.ensures
-    at-set-length.set-length.ensures
-    (refused-by _ _ _ _ _ at-loop.loop.invariant.1
+    emits_by _ _ at-set-start.set_start.ensures
+    at-set-length.set_length.ensures
+    (refused_by _ _ _ _ _ at-loop.loop.invariant.1
     at-loop-test.loop-test.true
-    (λ g s. rw (c.enum_told.given.1, at-bundle-at.bundle-at.ensures) at (at-emit-bundle.emit-bundle.ensures g s)))
+    (λ g s. rw (c.enum_told.given.1, at-bundle-at.bundle_at.ensures) at (at-emit-bundle.emit_bundle.ensures g s)))
 
-enum-told-2 : tie.Need-enum-told-2 invariant-loop decreases-loop
-enum-told-2 c = search rules
+enum_told_2 : tie.Need-enum-told-2 invariant-loop decreases-loop
+enum_told_2 c = search rules
 
-add-i : tie.Need-overflow-add-i invariant-loop decreases-loop
-add-i c = search rules
+add_i : tie.Need-overflow-add-i invariant-loop decreases-loop
+add_i c = search rules
 
-loop-less : tie.Need-loop-smaller invariant-loop decreases-loop
-loop-less c = search rules
+loop_less : tie.Need-loop-smaller invariant-loop decreases-loop
+loop_less c = search rules
 
-loop-again : tie.Need-loop-preserved invariant-loop decreases-loop
-loop-again c =
+loop_again : tie.Need-loop-preserved invariant-loop decreases-loop
+loop_again c =
     let at-emit-bundle = c.before.before in
     let at-bundle-at = at-emit-bundle.before in
     let at-loop-test = at-bundle-at.before.before in
     let at-loop = at-loop-test.before in (
       omega arith,
-      turned_by _ _ _ _ _ at-loop.loop.invariant.1 (λ g. bundles-leave g _ _)
+      turned_by _ _ _ _ _ at-loop.loop.invariant.1 (λ g. bundles_leave g _ _)
           at-loop-test.loop-test.true
-          (λ g s. rw (c.enum-told2.given.1, at-bundle-at.bundle-at.ensures) at (at-emit-bundle.emit-bundle.ensures g s)),
+          (λ g s. rw (c.enum-told2.given.1, at-bundle-at.bundle_at.ensures) at (at-emit-bundle.emit_bundle.ensures g s)),
     )
 
-returns-2 : tie.Need-returns-2 invariant-loop decreases-loop
-returns-2 c = emits-by _ _ c.before.before.before.before.set-start.ensures c.before.before.set-length.ensures
+returns_2 : tie.Need-returns-2 invariant-loop decreases-loop
+returns_2 c = emits_by _ _ c.before.before.before.before.set_start.ensures c.before.before.set_length.ensures
     (over_by _ _ _ _ _ c.before.loop.invariant.1 c.loop-test.false)
 
 pub emit-bundles-spec : {M : Type 1} → statement M
@@ -78,14 +78,14 @@ emit-bundles-spec =
     invariant-loop
     decreases-loop
     set-start-requires
-    set-length-requires
-    loop-holds
+    set_length_requires
+    loop_holds
     bundle-at-requires
     emit-bundle-requires
     enum_told
     returns
-    enum-told-2
-    add-i
-    loop-less
-    loop-again
-    returns-2)
+    enum_told_2
+    add_i
+    loop_less
+    loop_again
+    returns_2)

@@ -1,6 +1,6 @@
 use mathlib.Core.Path.{refl, ◌∙◌}
-use Rattle.cfg_emits.specs.Emits.{input-there}
-use Rattle.cfg_emits.specs.laws.paths.EmitsLaws.{input-refused, input-set}
+use Rattle.cfg_emits.specs.Emits.{input_there}
+use Rattle.cfg_emits.specs.laws.paths.EmitsLaws.{input_refused, input_set}
 use borrow.Author.Rules.{rules}
 use Rattle.cfg_emits.proofs.emit.emit_input.Statement.{statement}
 use Rattle.cfg_emits.proofs.emit.emit_input.Tie as tie
@@ -9,7 +9,7 @@ target-input-requires : tie.Need-target-input-requires
 target-input-requires c κs = search rules
 
 returns : tie.Need-returns
-returns c = λ g s. input-there (λ e. c.if1.true (c.before.target-input.ensures ∙ e)) refl
+returns c = λ g s. input_there (λ e. c.if1.true (c.before.target-input.ensures ∙ e)) refl
 
 target-input-type-requires : tie.Need-target-input-type-requires
 target-input-type-requires c κs = search rules
@@ -32,29 +32,29 @@ output-requires c κs = search rules
 set-target-input-requires : tie.Need-set-target-input-requires
 set-target-input-requires c κs = search rules
 
-returns-2 : tie.Need-returns-2
-returns-2 c =
+returns_2 : tie.Need-returns-2
+returns_2 c =
     let at-define-output = c.before.before in
     let at-values-in-cases = at-define-output.before.before.before in
     let at-target-input-type = at-values-in-cases.before.before in
     let at-if = at-target-input-type.before.before in
     let at-target-input = at-if.before in
-    input-refused _ _ _ _ _ _ at-target-input.target-input.ensures at-if.if1.false
+    input_refused _ _ _ _ _ _ at-target-input.target-input.ensures at-if.if1.false
     at-target-input-type.target-input-type.ensures
-    at-values-in-cases.values-in-cases.ensures at-define-output.define-output.ensures
+    at-values-in-cases.values-in-cases.ensures at-define-output.define_output.ensures
     c.enum_told.given.1
 
-returns-3 : tie.Need-returns-3
-returns-3 c =
+returns_3 : tie.Need-returns-3
+returns_3 c =
     let at-o = c.before.before.before.before in
     let at-define-output = at-o.before.before in
     let at-values-in-cases = at-define-output.before.before.before in
     let at-target-input-type = at-values-in-cases.before.before in
     let at-if = at-target-input-type.before.before in
     let at-target-input = at-if.before in
-    input-set _ _ _ _ _ _ at-target-input.target-input.ensures at-if.if1.false at-target-input-type.target-input-type.ensures
+    input_set _ _ _ _ _ _ at-target-input.target-input.ensures at-if.if1.false at-target-input-type.target-input-type.ensures
     at-values-in-cases.values-in-cases.ensures
-    at-define-output.define-output.ensures at-o.o.given.1
+    at-define-output.define_output.ensures at-o.o.given.1
     c.before.output.ensures c.set-target-input.ensures
 
 pub emit-input-spec : {M : Type 1} → statement M
@@ -70,5 +70,5 @@ emit-input-spec =
     enum-known-o
     output-requires
     set-target-input-requires
-    returns-2
-    returns-3)
+    returns_2
+    returns_3)

@@ -2,18 +2,18 @@ use mathlib.Core.Path.{◌≡◌}
 use Prim.Native.Nat.{◌-◌, ◌≤◌}
 use native.Mathlib.Omega.{arith}
 use lib.ListN.{get_or}
-use Rattle.state_regions.specs.RegionTables.{case-total}
-use Rattle.cfg_planning.specs.laws.paths.PlanningLaws.{few-total}
-use Rattle.cfg_emits.specs.Emits.{InCases, value-in-case}
-use Rattle.cfg_emits.specs.laws.paths.EmitsLaws.{in-none, in-more, in_all}
+use Rattle.state_regions.specs.RegionTables.{case_total}
+use Rattle.cfg_planning.specs.laws.paths.PlanningLaws.{few_total}
+use Rattle.cfg_emits.specs.Emits.{InCases, value_in_case}
+use Rattle.cfg_emits.specs.laws.paths.EmitsLaws.{in_none, in_more, in_all}
 use borrow.Author.Rules.{rules}
 use Rattle.cfg_emits.proofs.emit.values_in_cases.Statement.{statement}
 use Rattle.cfg_emits.proofs.emit.values_in_cases.Tie as tie
-use Rattle.state_words.specs.Values.{undef-from}
+use Rattle.state_words.specs.Values.{undef_from}
 
 abbrev invariant-loop : tie.invariant-loop
-invariant-loop w places k ty n vs₀ j₀ vs j = (n ≡ case-total w) × (n ≤ 8) × (j ≤ n) × InCases j
-    (λ i. value-in-case w (get_or places i 0) k ty) undef-from vs
+invariant-loop w places k ty n vs₀ j₀ vs j = (n ≡ case_total w) × (n ≤ 8) × (j ≤ n) × InCases j
+    (λ i. value_in_case w (get_or places i 0) k ty) undef_from vs
 
 abbrev decreases-loop : tie.decreases-loop
 decreases-loop w places k ty n vs₀ j₀ vs j = n - j
@@ -21,8 +21,8 @@ decreases-loop w places k ty n vs₀ j₀ vs j = n - j
 case-count-requires : tie.Need-case-count-requires invariant-loop decreases-loop
 case-count-requires c κs = search rules
 
-loop-holds : tie.Need-loop-init invariant-loop decreases-loop
-loop-holds c = (c.case_count.ensures, few-total _ _ c.case_count.ensures, omega arith, in-none _ undef-from)
+loop_holds : tie.Need-loop-init invariant-loop decreases-loop
+loop_holds c = (c.case_count.ensures, few_total _ _ c.case_count.ensures, omega arith, in_none _ undef_from)
 
 cast-p : tie.Need-overflow-cast-p invariant-loop decreases-loop
 cast-p c = search rules
@@ -45,18 +45,18 @@ mul-vs c = search rules
 array-write-vs : tie.Need-array-write-vs invariant-loop decreases-loop
 array-write-vs c = search rules
 
-add-j : tie.Need-overflow-add-j invariant-loop decreases-loop
-add-j c = search rules
+add_j : tie.Need-overflow-add-j invariant-loop decreases-loop
+add_j c = search rules
 
-loop-less : tie.Need-loop-smaller invariant-loop decreases-loop
-loop-less c = search rules
+loop_less : tie.Need-loop-smaller invariant-loop decreases-loop
+loop_less c = search rules
 
-loop-again : tie.Need-loop-preserved invariant-loop decreases-loop
-loop-again c = (
+loop_again : tie.Need-loop-preserved invariant-loop decreases-loop
+loop_again c = (
   c.before.before.before.loop.invariant.0,
   c.before.before.before.loop.invariant.1,
   omega arith,
-  in-more c.before.before.before.loop.invariant.3 (omega arith) c.value-in-case.ensures,
+  in_more c.before.before.before.loop.invariant.3 (omega arith) c.value_in_case.ensures,
 )
 
 returns : tie.Need-returns invariant-loop decreases-loop
@@ -69,7 +69,7 @@ values-in-cases-spec =
     invariant-loop
     decreases-loop
     case-count-requires
-    loop-holds
+    loop_holds
     cast-p
     mul-p
     element-copy-out-p
@@ -77,7 +77,7 @@ values-in-cases-spec =
     cast-vs
     mul-vs
     array-write-vs
-    add-j
-    loop-less
-    loop-again
+    add_j
+    loop_less
+    loop_again
     returns)

@@ -5,14 +5,14 @@ use native.Mathlib.Omega.{arith}
 use borrow.Author.Rules.{rules}
 use borrow.Author.Tests.{not-true, not-false}
 use Rattle.cfg_lookups.specs.LookUps.{turns}
-use Rattle.cfg_lookups.specs.laws.paths.LookUpsLaws.{turn-none, turn-renumbers, turn_on}
-use Rattle.cfg_lookups.specs.laws.paths.LookUpsLaws.{turn-stays, turns-over}
+use Rattle.cfg_lookups.specs.laws.paths.LookUpsLaws.{turn_none, turn_renumbers, turn_on}
+use Rattle.cfg_lookups.specs.laws.paths.LookUpsLaws.{turn_stays, turns_over}
 use Rattle.cfg_lookups.proofs.look_up.look_up.Statement.{statement}
 use Rattle.cfg_lookups.proofs.look_up.look_up.Tie as tie
-use Rattle.nesting.specs.Nesting.{most-regions}
+use Rattle.nesting.specs.Nesting.{most_regions}
 
 abbrev invariant-loop : tie.invariant-loop
-invariant-loop w v x₀ left₀ x left = turns left w x ≡ turns (most-regions + 1) w v
+invariant-loop w v x₀ left₀ x left = turns left w x ≡ turns (most_regions + 1) w v
 
 abbrev decreases-loop : tie.decreases-loop
 decreases-loop w v x₀ left₀ x left = left
@@ -20,8 +20,8 @@ decreases-loop w v x₀ left₀ x left = left
 add_left : tie.Need-overflow-add-left invariant-loop decreases-loop
 add_left c = search rules
 
-loop-holds : tie.Need-loop-init invariant-loop decreases-loop
-loop-holds c = refl
+loop_holds : tie.Need-loop-init invariant-loop decreases-loop
+loop_holds c = refl
 
 is-input-requires : tie.Need-is-input-requires invariant-loop decreases-loop
 is-input-requires c κs = search rules
@@ -30,8 +30,8 @@ stays-requires : tie.Need-stays-requires invariant-loop decreases-loop
 stays-requires c κs = search rules
 
 returns : tie.Need-returns invariant-loop decreases-loop
-returns c = c.stays.ensures ∙ turn-stays _ _ _ 0 0 0 0 c.before.before.before.loop-test.true
-    c.before.before.before.before.loop.invariant (sym c.before.before.is-input.ensures ∙ not-true _ c.before.if1.true)
+returns c = c.stays.ensures ∙ turn_stays _ _ _ 0 0 0 0 c.before.before.before.loop-test.true
+    c.before.before.before.before.loop.invariant (sym c.before.before.is_input.ensures ∙ not-true _ c.before.if1.true)
 
 input-region-requires : tie.Need-input-region-requires invariant-loop decreases-loop
 input-region-requires c κs = search rules
@@ -48,14 +48,14 @@ rewrite-value-requires c κs = search rules
 renumbers-requires : tie.Need-renumbers-requires invariant-loop decreases-loop
 renumbers-requires c κs = search rules
 
-sub-left : tie.Need-overflow-sub-left invariant-loop decreases-loop
-sub-left c = omega arith
+sub_left : tie.Need-overflow-sub-left invariant-loop decreases-loop
+sub_left c = omega arith
 
-loop-less : tie.Need-loop-smaller invariant-loop decreases-loop
-loop-less c = omega arith
+loop_less : tie.Need-loop-smaller invariant-loop decreases-loop
+loop_less c = omega arith
 
-loop-again : tie.Need-loop-preserved invariant-loop decreases-loop
-loop-again c =
+loop_again : tie.Need-loop-preserved invariant-loop decreases-loop
+loop_again c =
     let at-rewrite-value = c.before.before in
     let at-input-index = at-rewrite-value.before in
     let at-if = at-input-index.before in
@@ -67,28 +67,28 @@ loop-again c =
     let at-loop = at-loop-test.before in
     turn_on _ _ _ _ _ _ _ at-loop-test.loop-test.true
     at-loop.loop.invariant
-    (sym at-is-input.is-input.ensures
+    (sym at-is-input.is_input.ensures
     ∙ not-false _ at-if-2.if1.false)
-    at-input-region.input-region.ensures
-    at-rewrite-kind.rewrite-kind.ensures at-if.if2.false
-    at-input-index.input-index.ensures at-rewrite-value.rewrite-value.ensures
+    at-input-region.input_region.ensures
+    at-rewrite-kind.rewrite_kind.ensures at-if.if2.false
+    at-input-index.input_index.ensures at-rewrite-value.rewrite_value.ensures
     (sym c.before.renumbers.ensures ∙ c.if3.false)
 
 plain-requires : tie.Need-plain-requires invariant-loop decreases-loop
 plain-requires c κs = search rules
 
 -- The loop is left after the last turn, at a region without an entry, or at a renumbered input.
-returns-2 : tie.Need-returns-2 invariant-loop decreases-loop
-returns-2 c =
+returns_2 : tie.Need-returns-2 invariant-loop decreases-loop
+returns_2 c =
     let left = c.before.before.loop.invariant in
     c.plain.ensures
-    ∙ ⊎_elim (λ y. rw y.1 (turns-over _ _ _ y.0.left left))
+    ∙ ⊎_elim (λ y. rw y.1 (turns_over _ _ _ y.0.left left))
     (⊎_elim
     (λ y. rw y.6
-    (turn-none _ _ _ _ _ 0 0 y.0.taken left (sym y.1.ensures ∙ not-false _ y.2.left) y.3.ensures y.4.ensures
+    (turn_none _ _ _ _ _ 0 0 y.0.taken left (sym y.1.ensures ∙ not-false _ y.2.left) y.3.ensures y.4.ensures
     y.5.taken))
     (λ y. rw y.10
-    (turn-renumbers _ _ _ _ _ _ _ y.0.taken left (sym y.1.ensures ∙ not-false _ y.2.left) y.3.ensures y.4.ensures
+    (turn_renumbers _ _ _ _ _ _ _ y.0.taken left (sym y.1.ensures ∙ not-false _ y.2.left) y.3.ensures y.4.ensures
     y.5.left y.6.ensures y.7.ensures (sym y.8.ensures ∙ y.9.taken))))
     c.before.loop-test.branch
 
@@ -99,7 +99,7 @@ look-up-spec =
     invariant-loop
     decreases-loop
     add_left
-    loop-holds
+    loop_holds
     is-input-requires
     stays-requires
     returns
@@ -108,8 +108,8 @@ look-up-spec =
     input-index-requires
     rewrite-value-requires
     renumbers-requires
-    sub-left
-    loop-less
-    loop-again
+    sub_left
+    loop_less
+    loop_again
     plain-requires
-    returns-2)
+    returns_2)

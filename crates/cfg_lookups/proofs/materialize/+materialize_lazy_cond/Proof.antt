@@ -8,10 +8,10 @@ use borrow.Author.Rules.{rules}
 use borrow.Fn.Kinds.{In}
 use borrow.Fn.PlainCycle.{Measures, is, falls, and}
 use Rattle.state_words.specs.Sections.{word, conditions}
-use Rattle.cfg_lookups.specs.Materialized.{PartsMade, no_part, made-true, made-false, made-undef}
-use Rattle.cfg_lookups.specs.laws.paths.MaterializedLaws.{part-turn}
-use Rattle.cfg_lookups.specs.laws.paths.MaterializedLaws.{few-parts, part-below}
-use Rattle.cfg_lookups.specs.laws.paths.MaterializedLaws.{part-full}
+use Rattle.cfg_lookups.specs.Materialized.{PartsMade, no_part, made_true, made_false, made_undef}
+use Rattle.cfg_lookups.specs.laws.paths.MaterializedLaws.{part_turn}
+use Rattle.cfg_lookups.specs.laws.paths.MaterializedLaws.{few_parts, part_below}
+use Rattle.cfg_lookups.specs.laws.paths.MaterializedLaws.{part_full}
 use Rattle.cfg_lookups.specs.laws.paths.MaterializedLaws.{parts_all}
 use Rattle.cfg_lookups.proofs.materialize.materialize_lazy_cond.Reads as reads
 use Rattle.cfg_lookups.proofs.materialize.materialize_lazy_cond.Kinds as kinds
@@ -23,7 +23,7 @@ use Rattle.state_nodes.proofs.conditions.shape_size.Reads as shape_size
 use Rattle.state_words.proofs.values.undef.Reads as undef
 use Rattle.cfg_lookups.proofs.materialize.+materialize_lazy_cond.{statement}
 use Rattle.cfg_lookups.proofs.materialize.+materialize_lazy_cond.Tie.{close}
-use Rattle.state_words.specs.Rows.{merge-part-at}
+use Rattle.state_words.specs.Rows.{merge_part_at}
 
 abbrev measure : Measures 1 kinds.ps ℕ
 measure κs a = a.1.0
@@ -59,16 +59,16 @@ decreases-loop w₀ c n vs₀ j₀ w vs j = n - j
 
 module _ (t : ℕ) where
   returns : lts.Need-returns (called t) (at t) reads.Post invariant-loop decreases-loop
-  returns c = made-true c.if1.true refl
+  returns c = made_true c.if1.true refl
 
-  returns-2 : lts.Need-returns-2 (called t) (at t) reads.Post invariant-loop decreases-loop
-  returns-2 c = made-false c.if2.true refl
+  returns_2 : lts.Need-returns-2 (called t) (at t) reads.Post invariant-loop decreases-loop
+  returns_2 c = made_false c.if2.true refl
 
   undef-requires : lts.Need-undef-requires (called t) (at t) reads.Post invariant-loop decreases-loop
   undef-requires c κs = search rules
 
-  returns-3 : lts.Need-returns-3 (called t) (at t) reads.Post invariant-loop decreases-loop
-  returns-3 c = made-undef c.before.before.before.if1.false c.before.before.if2.false c.before.if3.true
+  returns_3 : lts.Need-returns-3 (called t) (at t) reads.Post invariant-loop decreases-loop
+  returns_3 c = made_undef c.before.before.before.if1.false c.before.before.if2.false c.before.if3.true
       c.undef.ensures refl
 
   cond-shape-requires : lts.Need-cond-shape-requires (called t) (at t) reads.Post invariant-loop decreases-loop
@@ -77,8 +77,8 @@ module _ (t : ℕ) where
   shape-size-requires : lts.Need-shape-size-requires (called t) (at t) reads.Post invariant-loop decreases-loop
   shape-size-requires c κs = search rules
 
-  loop-holds : lts.Need-loop-init (called t) (at t) reads.Post invariant-loop decreases-loop
-  loop-holds c = (no_part refl refl refl, refl, omega arith)
+  loop_holds : lts.Need-loop-init (called t) (at t) reads.Post invariant-loop decreases-loop
+  loop_holds c = (no_part refl refl refl, refl, omega arith)
 
   cond-part-requires : lts.Need-cond-part-requires (called t) (at t) reads.Post invariant-loop decreases-loop
   cond-part-requires c κs = search rules
@@ -92,9 +92,9 @@ module _ (t : ℕ) where
           arith,
           at_pre.requires.0,
           c.before.cond-part.ensures,
-          part-below
+          part_below
               (word at-loop.loop.w conditions
-              (merge-part-at at_pre.args.c at-loop.loop.j))
+              (merge_part_at at_pre.args.c at-loop.loop.j))
               at_pre.args.c
               at-if.if3.false,
         ),
@@ -104,8 +104,8 @@ module _ (t : ℕ) where
   enum_told : lts.Need-enum-told (called t) (at t) reads.Post invariant-loop decreases-loop
   enum_told c = search rules
 
-  returns-4 : lts.Need-returns-4 (called t) (at t) reads.Post invariant-loop decreases-loop
-  returns-4 c =
+  returns_4 : lts.Need-returns-4 (called t) (at t) reads.Post invariant-loop decreases-loop
+  returns_4 c =
       let at-materialize-lazy-cond = c.before.before in
       let at-cond-part = at-materialize-lazy-cond.before.before in
       let at-loop-test = at-cond-part.before.before in
@@ -113,11 +113,11 @@ module _ (t : ℕ) where
       let at-shape-size = at-loop.before in
       let at-cond-shape = at-shape-size.before in
       let at-if = at-cond-shape.before.before in
-      part-full _ _ at-loop.loop.invariant.0
+      part_full _ _ at-loop.loop.invariant.0
       at-shape-size.shape_size.ensures
       at-cond-shape.cond-shape.ensures
       at-loop-test.loop-test.true at-cond-part.cond-part.ensures
-      at-materialize-lazy-cond.materialize-lazy-cond.ensures
+      at-materialize-lazy-cond.materialize_lazy_cond.ensures
       at-if.if3.false c.enum_told.given.1
 
   enum-known-v : lts.Need-enum-known-v (called t) (at t) reads.Post invariant-loop decreases-loop
@@ -135,7 +135,7 @@ module _ (t : ℕ) where
         arith,
         at-loop-test.loop-test.true,
         at-shape-size.shape_size.ensures,
-        few-parts
+        few_parts
             at-cond-shape.cond-shape.result,
       )
 
@@ -149,34 +149,34 @@ module _ (t : ℕ) where
         arith,
         at-loop-test.loop-test.true,
         at-shape-size.shape_size.ensures,
-        few-parts
+        few_parts
             at-cond-shape.cond-shape.result,
         at-loop.loop.invariant.1,
       )
 
-  add-j : lts.Need-overflow-add-j (called t) (at t) reads.Post invariant-loop decreases-loop
-  add-j c =
+  add_j : lts.Need-overflow-add-j (called t) (at t) reads.Post invariant-loop decreases-loop
+  add_j c =
       let at-loop-test = c.before.before.before.before.before.before.before in
       omega (arith, at-loop-test.loop-test.true)
 
-  loop-less : lts.Need-loop-smaller (called t) (at t) reads.Post invariant-loop decreases-loop
-  loop-less c =
+  loop_less : lts.Need-loop-smaller (called t) (at t) reads.Post invariant-loop decreases-loop
+  loop_less c =
       let at-loop-test = c.before.before.before.before.before.before.before in
       omega (arith, at-loop-test.loop-test.true)
 
-  loop-again : lts.Need-loop-preserved (called t) (at t) reads.Post invariant-loop decreases-loop
-  loop-again c =
+  loop_again : lts.Need-loop-preserved (called t) (at t) reads.Post invariant-loop decreases-loop
+  loop_again c =
       let at-materialize-lazy-cond = c.before.before.before in
       let at-cond-part = at-materialize-lazy-cond.before.before in
       let at-loop-test = at-cond-part.before.before in
       let at-loop = at-loop-test.before in
       let at-shape-size = at-loop.before in
       let at-cond-shape = at-shape-size.before in (
-        part-turn _ _ at-loop.loop.invariant.0
+        part_turn _ _ at-loop.loop.invariant.0
             at-shape-size.shape_size.ensures
             at-cond-shape.cond-shape.ensures
             at-loop-test.loop-test.true
-            at-cond-part.cond-part.ensures at-materialize-lazy-cond.materialize-lazy-cond.ensures
+            at-cond-part.cond-part.ensures at-materialize-lazy-cond.materialize_lazy_cond.ensures
             c.before.v.given.1,
         simp length-set at-loop.loop.invariant.1,
         omega
@@ -186,8 +186,8 @@ module _ (t : ℕ) where
   merged-requires : lts.Need-merged-requires (called t) (at t) reads.Post invariant-loop decreases-loop
   merged-requires c κs = search rules
 
-  returns-5 : lts.Need-returns-5 (called t) (at t) reads.Post invariant-loop decreases-loop
-  returns-5 c =
+  returns_5 : lts.Need-returns-5 (called t) (at t) reads.Post invariant-loop decreases-loop
+  returns_5 c =
       let at-loop-test = c.before.before.before in
       let at-loop = at-loop-test.before in
       let at-shape-size = at-loop.before in
@@ -202,22 +202,22 @@ module _ (t : ℕ) where
 pub +materialize-lazy-cond-spec : {M : Type 1} → statement M
 +materialize-lazy-cond-spec = close measure λ t. lts.spec (called t) (at t) reads.Post invariant-loop decreases-loop
     (returns t)
-    (returns-2 t)
+    (returns_2 t)
     (undef-requires t)
-    (returns-3 t)
+    (returns_3 t)
     (cond-shape-requires t)
     (shape-size-requires t)
-    (loop-holds t)
+    (loop_holds t)
     (cond-part-requires t)
     (materialize-lazy-cond-requires t)
     (enum_told t)
-    (returns-4 t)
+    (returns_4 t)
     (enum-known-v t)
     (cast-vs t)
     (mul-vs t)
     (array-write-vs t)
-    (add-j t)
-    (loop-less t)
-    (loop-again t)
+    (add_j t)
+    (loop_less t)
+    (loop_again t)
     (merged-requires t)
-    (returns-5 t)
+    (returns_5 t)

@@ -1,5 +1,5 @@
-use Rattle.cfg_lookups.specs.laws.paths.MaterializedLaws.{merged-full, merged-output}
-use Rattle.cfg_lookups.specs.laws.paths.MaterializedLaws.{merged-scrutinee}
+use Rattle.cfg_lookups.specs.laws.paths.MaterializedLaws.{merged_full, merged_output}
+use Rattle.cfg_lookups.specs.laws.paths.MaterializedLaws.{merged_scrutinee}
 use borrow.Author.Rules.{rules}
 use Rattle.cfg_lookups.proofs.materialize.merged.Statement.{statement}
 use Rattle.cfg_lookups.proofs.materialize.merged.Tie as tie
@@ -14,8 +14,8 @@ cond-scrutinee-requires : tie.Need-cond-scrutinee-requires
 cond-scrutinee-requires c κs = search rules
 
 returns : tie.Need-returns
-returns c = merged-scrutinee _ _ _ _ _ c.before.before.before.before.cond-shape.ensures
-    c.before.before.before.is-scrutinee.ensures c.before.before.if1.true c.cond-scrutinee.ensures
+returns c = merged_scrutinee _ _ _ _ _ c.before.before.before.before.cond-shape.ensures
+    c.before.before.before.is_scrutinee.ensures c.before.before.if1.true c.cond-scrutinee.ensures
 
 cond-node-requires : tie.Need-cond-node-requires
 cond-node-requires c κs = search rules
@@ -32,31 +32,31 @@ enum-known-o c = search rules
 output-requires : tie.Need-output-requires
 output-requires c κs = search rules
 
-returns-2 : tie.Need-returns-2
-returns-2 c =
+returns_2 : tie.Need-returns-2
+returns_2 c =
     let at-define-output = c.before.before in
     let at-cond-node = at-define-output.before.before in
     let at-if = at-cond-node.before.before in
     let at-is-scrutinee = at-if.before in
     let at-cond-shape = at-is-scrutinee.before in
-    merged-full _ _ _ _ _ at-cond-shape.cond-shape.ensures
-    at-is-scrutinee.is-scrutinee.ensures
+    merged_full _ _ _ _ _ at-cond-shape.cond-shape.ensures
+    at-is-scrutinee.is_scrutinee.ensures
     at-if.if1.false at-cond-node.cond-node.ensures
-    at-define-output.define-output.ensures c.enum_told.given.1
+    at-define-output.define_output.ensures c.enum_told.given.1
 
-returns-3 : tie.Need-returns-3
-returns-3 c =
+returns_3 : tie.Need-returns-3
+returns_3 c =
     let at-o = c.before.before in
     let at-define-output = at-o.before.before in
     let at-cond-node = at-define-output.before.before in
     let at-if = at-cond-node.before.before in
     let at-is-scrutinee = at-if.before in
     let at-cond-shape = at-is-scrutinee.before in
-    merged-output _ _ _ _ _
+    merged_output _ _ _ _ _
     at-cond-shape.cond-shape.ensures
-    at-is-scrutinee.is-scrutinee.ensures
+    at-is-scrutinee.is_scrutinee.ensures
     at-if.if1.false
-    at-cond-node.cond-node.ensures at-define-output.define-output.ensures
+    at-cond-node.cond-node.ensures at-define-output.define_output.ensures
     at-o.o.given.1 c.output.ensures
 
 pub merged-spec : {M : Type 1} → statement M
@@ -72,5 +72,5 @@ merged-spec =
     enum_told
     enum-known-o
     output-requires
-    returns-2
-    returns-3)
+    returns_2
+    returns_3)

@@ -2,7 +2,7 @@ use mathlib.Core.Path.{refl}
 use Prim.Native.Nat.{◌-◌, ◌≤◌}
 use native.Mathlib.Omega.{arith}
 use Rattle.cfg_loops.specs.Inputs.{RewritesValues, none_yet, one_more}
-use Rattle.cfg_loops.specs.laws.paths.InputsLaws.{all-rewritten}
+use Rattle.cfg_loops.specs.laws.paths.InputsLaws.{all_rewritten}
 use borrow.Author.Rules.{rules}
 use Rattle.cfg_loops.proofs.inputs.rewrite_values.Statement.{statement}
 use Rattle.cfg_loops.proofs.inputs.rewrite_values.Tie as tie
@@ -13,8 +13,8 @@ invariant-loop w₀ vs₀ n k₀ w vs k = RewritesValues n k w₀ vs₀ w vs × 
 abbrev decreases-loop : tie.decreases-loop
 decreases-loop w₀ vs₀ n k₀ w vs k = 4 - k
 
-loop-holds : tie.Need-loop-init invariant-loop decreases-loop
-loop-holds c = (none_yet refl refl refl, omega arith)
+loop_holds : tie.Need-loop-init invariant-loop decreases-loop
+loop_holds c = (none_yet refl refl refl, omega arith)
 
 cast-i : tie.Need-overflow-cast-i invariant-loop decreases-loop
 cast-i c = search rules
@@ -37,18 +37,18 @@ element-write-vs c = search rules
 add-k : tie.Need-overflow-add-k invariant-loop decreases-loop
 add-k c = search rules
 
-loop-less : tie.Need-loop-smaller invariant-loop decreases-loop
-loop-less c = omega arith
+loop_less : tie.Need-loop-smaller invariant-loop decreases-loop
+loop_less c = omega arith
 
-loop-again : tie.Need-loop-preserved invariant-loop decreases-loop
-loop-again c = (
-  one_more c.before.before.before.before.loop.invariant.0 c.rewrite-value.ensures refl refl,
+loop_again : tie.Need-loop-preserved invariant-loop decreases-loop
+loop_again c = (
+  one_more c.before.before.before.before.loop.invariant.0 c.rewrite_value.ensures refl refl,
   omega
       (arith, c.before.before.before.loop-test.true),
 )
 
 returns : tie.Need-returns invariant-loop decreases-loop
-returns c = all-rewritten c.before.loop.invariant.0 c.before.loop.invariant.1 c.loop-test.false
+returns c = all_rewritten c.before.loop.invariant.0 c.before.loop.invariant.1 c.loop-test.false
 
 pub rewrite-values-spec : {M : Type 1} → statement M
 rewrite-values-spec =
@@ -56,7 +56,7 @@ rewrite-values-spec =
     (tie.spec
     invariant-loop
     decreases-loop
-    loop-holds
+    loop_holds
     cast-i
     mul-v
     element-copy-out-v
@@ -64,6 +64,6 @@ rewrite-values-spec =
     mul-vs
     element-write-vs
     add-k
-    loop-less
-    loop-again
+    loop_less
+    loop_again
     returns)

@@ -17,15 +17,15 @@ returns c = lifted c.before.before.before.if1.true (c.before.if2.true ∙ c.befo
 keep-input-requires : tie.Need-keep-input-requires
 keep-input-requires c κs = search rules
 
-returns-2 : tie.Need-returns-2
-returns-2 c = kept c.before.before.before.before.if1.true (λ e. c.before.before.if2.false
-    (e ∙ sym c.before.before.before.input.ensures)) c.keep-input.ensures
+returns_2 : tie.Need-returns-2
+returns_2 c = kept c.before.before.before.before.if1.true (λ e. c.before.before.if2.false
+    (e ∙ sym c.before.before.before.input.ensures)) c.keep_input.ensures
 
 held-requires : tie.Need-held-requires
 held-requires c κs = search rules
 
-returns-3 : tie.Need-returns-3
-returns-3 c = beyond c.before.if1.false refl refl refl c.held.ensures
+returns_3 : tie.Need-returns-3
+returns_3 c = beyond c.before.if1.false refl refl refl c.held.ensures
 
 pub take-input-spec : {M : Type 1} → statement M
 take-input-spec =
@@ -35,6 +35,6 @@ take-input-spec =
     input-requires-2
     returns
     keep-input-requires
-    returns-2
+    returns_2
     held-requires
-    returns-3)
+    returns_3)

@@ -1,8 +1,8 @@
 use mathlib.Core.Path.{refl}
 use Prim.Native.Nat.{◌-◌, ◌≤◌}
 use native.Mathlib.Omega.{arith}
-use Rattle.cfg_loops.specs.Inputs.{TakesFrom, none-taken, one-taken}
-use Rattle.cfg_loops.specs.laws.paths.InputsLaws.{few-kept, all-taken}
+use Rattle.cfg_loops.specs.Inputs.{TakesFrom, none_taken, one_taken}
+use Rattle.cfg_loops.specs.laws.paths.InputsLaws.{few_kept, all_taken}
 use borrow.Author.Rules.{rules}
 use Rattle.cfg_loops.proofs.inputs.take_inputs.Statement.{statement}
 use Rattle.cfg_loops.proofs.inputs.take_inputs.Tie as tie
@@ -13,8 +13,8 @@ invariant-loop w₀ r wrapper n vs₀ x₀ k₀ w vs x k = TakesFrom r wrapper n
 abbrev decreases-loop : tie.decreases-loop
 decreases-loop w₀ r wrapper n vs₀ x₀ k₀ w vs x k = 4 - k
 
-loop-holds : tie.Need-loop-init invariant-loop decreases-loop
-loop-holds c = (none-taken refl refl refl refl refl, omega arith, omega arith)
+loop_holds : tie.Need-loop-init invariant-loop decreases-loop
+loop_holds c = (none_taken refl refl refl refl refl, omega arith, omega arith)
 
 cast-i : tie.Need-overflow-cast-i invariant-loop decreases-loop
 cast-i c = search rules
@@ -37,20 +37,20 @@ element-write-vs c = search rules
 add-k : tie.Need-overflow-add-k invariant-loop decreases-loop
 add-k c = search rules
 
-loop-less : tie.Need-loop-smaller invariant-loop decreases-loop
-loop-less c = omega arith
+loop_less : tie.Need-loop-smaller invariant-loop decreases-loop
+loop_less c = omega arith
 
-loop-again : tie.Need-loop-preserved invariant-loop decreases-loop
-loop-again c = (
-  one-taken c.before.before.before.before.loop.invariant.0 c.take-input.ensures refl refl,
-  few-kept
-      c.take-input.ensures c.before.before.before.before.loop.invariant.1,
+loop_again : tie.Need-loop-preserved invariant-loop decreases-loop
+loop_again c = (
+  one_taken c.before.before.before.before.loop.invariant.0 c.take_input.ensures refl refl,
+  few_kept
+      c.take_input.ensures c.before.before.before.before.loop.invariant.1,
   omega
       (arith, c.before.before.before.loop-test.true),
 )
 
 returns : tie.Need-returns invariant-loop decreases-loop
-returns c = all-taken c.before.before.loop.invariant.0 c.before.before.loop.invariant.2 c.before.loop-test.false refl
+returns c = all_taken c.before.before.loop.invariant.0 c.before.before.loop.invariant.2 c.before.loop-test.false refl
 
 pub take-inputs-spec : {M : Type 1} → statement M
 take-inputs-spec =
@@ -58,7 +58,7 @@ take-inputs-spec =
     (tie.spec
     invariant-loop
     decreases-loop
-    loop-holds
+    loop_holds
     cast-i
     mul-v
     element-copy-out-v
@@ -66,6 +66,6 @@ take-inputs-spec =
     mul-vs
     element-write-vs
     add-k
-    loop-less
-    loop-again
+    loop_less
+    loop_again
     returns)

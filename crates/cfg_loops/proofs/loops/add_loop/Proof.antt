@@ -1,4 +1,4 @@
-use Rattle.cfg_loops.specs.laws.paths.LoopsLaws.{loop-put}
+use Rattle.cfg_loops.specs.laws.paths.LoopsLaws.{loop_put}
 use borrow.Author.Rules.{rules}
 use Rattle.cfg_loops.proofs.loops.add_loop.Statement.{statement}
 use Rattle.cfg_loops.proofs.loops.add_loop.Tie as tie
@@ -13,7 +13,7 @@ set-children-requires : tie.Need-set-children-requires
 set-children-requires c κs = search rules
 
 returns : tie.Need-returns
-returns c = loop-put c.before.before.before.before.children.ensures c.before.before.add-cell.ensures
+returns c = loop_put c.before.before.before.before.children.ensures c.before.before.add-cell.ensures
     c.set-children.ensures
 
 pub add-loop-spec : {M : Type 1} → statement M

@@ -16,8 +16,8 @@ returns : tie.Need-returns
 returns c =
     let at-take-inputs = c.before.before.before in
     let at-rewrite-values = at-take-inputs.before.before.before in
-    enters at-rewrite-values.rewrite-values.ensures
-    at-take-inputs.take-inputs.ensures c.insert-rewrites.ensures
+    enters at-rewrite-values.rewrite_values.ensures
+    at-take-inputs.take_inputs.ensures c.insert_rewrites.ensures
 
 pub enter-inputs-spec : {M : Type 1} → statement M
 enter-inputs-spec =

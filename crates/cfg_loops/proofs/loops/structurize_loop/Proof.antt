@@ -1,5 +1,5 @@
-use Rattle.cfg_loops.specs.laws.paths.LoopsLaws.{loop-full, loop-made}
-use Rattle.cfg_loops.specs.laws.paths.LoopsLaws.{wrapper-full}
+use Rattle.cfg_loops.specs.laws.paths.LoopsLaws.{loop_full, loop_made}
+use Rattle.cfg_loops.specs.laws.paths.LoopsLaws.{wrapper_full}
 use borrow.Author.Rules.{rules}
 use Rattle.cfg_loops.proofs.loops.structurize_loop.Statement.{statement}
 use Rattle.cfg_loops.proofs.loops.structurize_loop.Tie as tie
@@ -7,8 +7,8 @@ use Rattle.cfg_loops.proofs.loops.structurize_loop.Tie as tie
 input-count-requires : tie.Need-input-count-requires
 input-count-requires c κs = search rules
 
-set-length-requires : tie.Need-set-length-requires
-set-length-requires c κs = search rules
+set_length_requires : tie.Need-set-length-requires
+set_length_requires c κs = search rules
 
 condition-in-requires : tie.Need-condition-in-requires
 condition-in-requires c κs = search rules
@@ -32,9 +32,9 @@ returns : tie.Need-returns
 returns c =
     let d = c.before.before in
     let e = d.before.before.before.before in
-    wrapper-full e.before.before.before.before.before.input-count.ensures e.backedge-inputs.ensures
-    e.before.before.before.set-length.ensures e.before.before.condition-in.ensures
-    d.before.before.split-out-target.ensures d.define-region.ensures
+    wrapper_full e.before.before.before.before.before.input_count.ensures e.backedge_inputs.ensures
+    e.before.before.before.set_length.ensures e.before.before.condition_in.ensures
+    d.before.before.split_out_target.ensures d.define_region.ensures
     c.enum_told.given.1
 
 enter-inputs-requires : tie.Need-enter-inputs-requires
@@ -43,24 +43,24 @@ enter-inputs-requires c κs = search rules
 define-loop-requires : tie.Need-define-loop-requires
 define-loop-requires c κs = search rules
 
-enum-told-2 : tie.Need-enum-told-2
-enum-told-2 c = search rules
+enum_told_2 : tie.Need-enum-told-2
+enum_told_2 c = search rules
 
-returns-2 : tie.Need-returns-2
-returns-2 c =
+returns_2 : tie.Need-returns-2
+returns_2 c =
     let at-define-loop = c.before.before in
     let at-enter-inputs = at-define-loop.before.before in
     let at-wrapper = at-enter-inputs.before.before.before.before in
     let d = c.before.before.before.before.before.before.before.before.before.before in
     let e = d.before.before.before.before in
-    loop-full e.before.before.before.before.before.input-count.ensures e.backedge-inputs.ensures
-    e.before.before.before.set-length.ensures e.before.before.condition-in.ensures
-    d.before.before.split-out-target.ensures d.define-region.ensures
+    loop_full e.before.before.before.before.before.input_count.ensures e.backedge_inputs.ensures
+    e.before.before.before.set_length.ensures e.before.before.condition_in.ensures
+    d.before.before.split_out_target.ensures d.define_region.ensures
     at-wrapper.wrapper.given.1
     at-enter-inputs.enter-inputs.ensures at-define-loop.define-loop.ensures c.enum-told2.given.1
 
-enum-told-3 : tie.Need-enum-told-3
-enum-told-3 c = search rules
+enum_told_3 : tie.Need-enum-told-3
+enum_told_3 c = search rules
 
 set-structured-body-requires : tie.Need-set-structured-body-requires
 set-structured-body-requires c κs = search rules
@@ -68,8 +68,8 @@ set-structured-body-requires c κs = search rules
 add-exit-edges-requires : tie.Need-add-exit-edges-requires
 add-exit-edges-requires c κs = search rules
 
-returns-3 : tie.Need-returns-3
-returns-3 c =
+returns_3 : tie.Need-returns-3
+returns_3 c =
     let at-set-structured-body = c.before.before in
     let at-enum-told = at-set-structured-body.before.before in
     let at-define-loop = at-enum-told.before.before in
@@ -77,9 +77,9 @@ returns-3 c =
     let at-wrapper = at-enter-inputs.before.before.before.before in
     let d = c.before.before.before.before.before.before.before.before.before.before.before.before.before.before in
     let e = d.before.before.before.before in
-    loop-made e.before.before.before.before.before.input-count.ensures e.backedge-inputs.ensures
-    e.before.before.before.set-length.ensures e.before.before.condition-in.ensures
-    d.before.before.split-out-target.ensures d.define-region.ensures
+    loop_made e.before.before.before.before.before.input_count.ensures e.backedge_inputs.ensures
+    e.before.before.before.set_length.ensures e.before.before.condition_in.ensures
+    d.before.before.split_out_target.ensures d.define_region.ensures
     at-wrapper.wrapper.given.1
     at-enter-inputs.enter-inputs.ensures
     at-define-loop.define-loop.ensures
@@ -91,7 +91,7 @@ structurize-loop-spec =
     tie.close
     (tie.spec
     input-count-requires
-    set-length-requires
+    set_length_requires
     condition-in-requires
     backedge-inputs-requires
     split-out-target-requires
@@ -101,9 +101,9 @@ structurize-loop-spec =
     returns
     enter-inputs-requires
     define-loop-requires
-    enum-told-2
-    returns-2
-    enum-told-3
+    enum_told_2
+    returns_2
+    enum_told_3
     set-structured-body-requires
     add-exit-edges-requires
-    returns-3)
+    returns_3)

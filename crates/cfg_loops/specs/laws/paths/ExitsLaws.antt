@@ -6,35 +6,35 @@ use Prim.Native.Nat.{ℕ, suc, ◌+◌, ◌-◌, ◌≤◌, ◌<◌, min}
 use native.Mathlib.Omega.{arith}
 use Rattle.std.proofs.Math.Numerals.{add-one}
 use Rattle.meaning.specs.Graph.{Graph}
-use Rattle.meaning.specs.Lists.{pick, is-in}
-use Rattle.state_words.specs.Sections.{word, stored, bundles, set-starts, set-lengths}
+use Rattle.meaning.specs.Lists.{pick, is_in}
+use Rattle.state_words.specs.Sections.{word, stored, bundles, set_starts, set_lengths}
 use Rattle.record.specs.Stands.{OfRecord}
-use Rattle.nesting.specs.Nesting.{exit-targets}
-use Rattle.state_sets.specs.SetTables.{bundle-at}
+use Rattle.nesting.specs.Nesting.{exit_targets}
+use Rattle.state_sets.specs.SetTables.{bundle_at}
 use Rattle.state_words.specs.Totals.{edges_word}
-use Rattle.state_words.specs.laws.Edges.{edges-sum}
+use Rattle.state_words.specs.laws.Edges.{edges_sum}
 use Rattle.state_shown.specs.Front.{SameKinds}
-use Rattle.state_shown.specs.laws.FrontKept.{stands-kept, kinds-same, kinds-stored, kinds-then}
-use Rattle.cfg_loops.specs.Exits.{exit-added, exits-from, exits-added, ExitsLeft}
-use Rattle.state_words.specs.Rows.{bundle-count, bundle-count-at, bundle-target, largest}
+use Rattle.state_shown.specs.laws.FrontKept.{stands_kept, kinds_same, kinds_stored, kinds_then}
+use Rattle.cfg_loops.specs.Exits.{exit_added, exits_from, exits_added, ExitsLeft}
+use Rattle.state_words.specs.Rows.{bundle_count, bundle_count_at, bundle_target, largest}
 
 -- ---- The functions, path by path.
-module _ (g : Graph) (r p : ℕ) (l : List ℕ) {t : ℕ} {b : Bool} (of-target : t ≡ bundle-target l p)
-    (told : b ≡ is-in t (exit-targets g r)) where
-  tells : is-in (bundle-target l p) (exit-targets g r) ≡ b
-  tells = rw (← of-target) (sym told)
+module _ (g : Graph) (r p : ℕ) (l : List ℕ) {t : ℕ} {b : Bool} (of_target : t ≡ bundle_target l p)
+    (told : b ≡ is_in t (exit_targets g r)) where
+  tells : is_in (bundle_target l p) (exit_targets g r) ≡ b
+  tells = rw (← of_target) (sym told)
 
-  pub exit-counted : b ≡ true → {n m : ℕ} {l' : List ℕ} → (n ≡ bundle-count l p) × (n ≤ largest) → m ≡ min (n + 1) 4294967295
-      → l' ≡ stored l bundles (bundle-count-at p) (edges_word m) → l' ≡ exit-added g r p l
-  unfolding exit-added
-  exit-counted e {n} a c q = q ∙ rw (tells, e, c, edges-sum n 1 a.1 (omega arith), a.0)
+  pub exit_counted : b ≡ true → {n m : ℕ} {l' : List ℕ} → (n ≡ bundle_count l p) × (n ≤ largest) → m ≡ min (n + 1) 4294967295
+      → l' ≡ stored l bundles (bundle_count_at p) (edges_word m) → l' ≡ exit_added g r p l
+  unfolding exit_added
+  exit_counted e {n} a c q = q ∙ rw (tells, e, c, edges_sum n 1 a.1 (omega arith), a.0)
 
-  pub exit-not : b ≡ false → l ≡ exit-added g r p l
-  unfolding exit-added
-  exit-not e = rw (tells, e)
+  pub exit_not : b ≡ false → l ≡ exit_added g r p l
+  unfolding exit_added
+  exit_not e = rw (tells, e)
 
 -- ---- The search in the exit list: those from place k on.
-module _ (t : ℕ) (xs : List ℕ) {n k : ℕ} (count : n ≡ length xs) {whole : Bool} (left : is-in t (drop k xs) ≡ whole) where
+module _ (t : ℕ) (xs : List ℕ) {n k : ℕ} (count : n ≡ length xs) {whole : Bool} (left : is_in t (drop k xs) ≡ whole) where
   pub found_nowhere : n ≤ k → false ≡ whole
   found_nowhere h = rw (drop_of_length-le xs {i = k} (omega arith)) at left
 
@@ -42,38 +42,38 @@ module _ (t : ℕ) (xs : List ℕ) {n k : ℕ} (count : n ≡ length xs) {whole 
     pub found_here : x ≡ t → true ≡ whole
     found_here f = rw (eq-eqb t (get_or xs k 0) (sym f ∙ here)) at (rw (drop-cons xs k 0 (omega arith)) at left)
 
-    pub found-later : (x ≡ t → ⊥) → is-in t (drop (k + 1) xs) ≡ whole
-    found-later d =
+    pub found_later : (x ≡ t → ⊥) → is_in t (drop (k + 1) xs) ≡ whole
+    found_later d =
         rw (add-one k) (rw (ne_eqb t (get_or xs k 0) (λ z. d (here ∙ sym z))) at (rw (drop-cons xs k 0 (omega arith)) at left))
 
 -- ---- The turns over a set: the record stands on, and what is left makes the whole.
-pub exit-front : (g : Graph) (r p : ℕ) (l : List ℕ) → SameKinds l (exit-added g r p l)
-unfolding exit-added
-exit-front g r p l = go (is-in (bundle-target l p) (exit-targets g r))
+pub exit_front : (g : Graph) (r p : ℕ) (l : List ℕ) → SameKinds l (exit_added g r p l)
+unfolding exit_added
+exit_front g r p l = go (is_in (bundle_target l p) (exit_targets g r))
   where
-    go : (b : Bool) → SameKinds l (pick b (stored l bundles (bundle-count-at p) (edges_word (bundle-count l p + 1))) l)
-    go true = kinds-stored l bundles (omega arith) (bundle-count-at p) (edges_word (bundle-count l p + 1))
-    go false = kinds-same l
+    go : (b : Bool) → SameKinds l (pick b (stored l bundles (bundle_count_at p) (edges_word (bundle_count l p + 1))) l)
+    go true = kinds_stored l bundles (omega arith) (bundle_count_at p) (edges_word (bundle_count l p + 1))
+    go false = kinds_same l
 
-pub exits-start : (g : Graph) (r start n : ℕ) (l : List ℕ) → ExitsLeft g r start n 0 l l
-exits-start g r start n l = let e : n - 0 ≡ n = omega arith in record { front = kinds-same l; left = rw e }
+pub exits_start : (g : Graph) (r start n : ℕ) (l : List ℕ) → ExitsLeft g r start n 0 l l
+exits_start g r start n l = let e : n - 0 ≡ n = omega arith in record { front = kinds_same l; left = rw e }
 
 module _ {r start n i : ℕ} {l₀ l : List ℕ} (left : OfRecord l₀ (λ g. ExitsLeft g r start n i l₀ l)) where
-  pub exits-turn : i < n → {p : ℕ} {l' : List ℕ} → p ≡ bundle-at start i → OfRecord l (λ g. l' ≡ exit-added g r p l)
+  pub exits_turn : i < n → {p : ℕ} {l' : List ℕ} → p ≡ bundle_at start i → OfRecord l (λ g. l' ≡ exit_added g r p l)
       → OfRecord l₀ (λ g. ExitsLeft g r start n (i + 1) l₀ l')
-  unfolding exits-from
-  exits-turn h {p} {l'} at step g s =
+  unfolding exits_from
+  exits_turn h {p} {l'} at step g s =
       let x = left g s in
-      let e : l' ≡ exit-added g r (bundle-at start i) l = rw (← at) (step g (stands-kept x.front s)) in
+      let e : l' ≡ exit_added g r (bundle_at start i) l = rw (← at) (step g (stands_kept x.front s)) in
       let m : n - i ≡ suc (n - (i + 1)) = omega arith in
       record {
-        front = rw e (kinds-then x.front (exit-front g r (bundle-at start i) l));
+        front = rw e (kinds_then x.front (exit_front g r (bundle_at start i) l));
         left = rw (e, add-one i) (rw (add-one i) at (rw m at x.left));
       }
 
-  pub exits-stop : n ≤ i → start ≡ word l₀ set-starts r → n ≡ word l₀ set-lengths r → OfRecord l₀ (λ g. l ≡ exits-added g r l₀)
-  unfolding exits-from
-  exits-stop h a b g s =
+  pub exits_stop : n ≤ i → start ≡ word l₀ set_starts r → n ≡ word l₀ set_lengths r → OfRecord l₀ (λ g. l ≡ exits_added g r l₀)
+  unfolding exits_from
+  exits_stop h a b g s =
       let m : n - i ≡ 0 = omega arith in
       let e = rw m at (left g s).left in
       e ∙ rw (a, b)

@@ -1,4 +1,4 @@
-use Rattle.cfg_merging.specs.laws.paths.RewritingLaws.{case-path}
+use Rattle.cfg_merging.specs.laws.paths.RewritingLaws.{case_path}
 use borrow.Author.Rules.{rules}
 use Rattle.cfg_merging.proofs.rewriting.rewrite_case.Statement.{statement}
 use Rattle.cfg_merging.proofs.rewriting.rewrite_case.Tie as tie
@@ -20,8 +20,8 @@ returns c =
     let at-case-length = c.before.before in
     let at-case-start = at-case-length.before.before in
     let at-rewrite-given = at-case-start.before.before in
-    case-path _ _ _ _ _ _ at-rewrite-given.rewrite-given.ensures
-    at-case-start.case-start.ensures at-case-length.case-length.ensures c.rewrite-set.ensures
+    case_path _ _ _ _ _ _ at-rewrite-given.rewrite_given.ensures
+    at-case-start.case-start.ensures at-case-length.case-length.ensures c.rewrite_set.ensures
 
 pub rewrite-case-spec : {M : Type 1} → statement M
 rewrite-case-spec =

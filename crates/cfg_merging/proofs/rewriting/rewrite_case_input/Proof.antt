@@ -1,4 +1,4 @@
-use Rattle.cfg_merging.specs.laws.paths.RewritingLaws.{case-input-path}
+use Rattle.cfg_merging.specs.laws.paths.RewritingLaws.{case_input_path}
 use borrow.Author.Rules.{rules}
 use Rattle.cfg_merging.proofs.rewriting.rewrite_case_input.Statement.{statement}
 use Rattle.cfg_merging.proofs.rewriting.rewrite_case_input.Tie as tie
@@ -13,7 +13,7 @@ set-case-input-requires : tie.Need-set-case-input-requires
 set-case-input-requires c κs = search rules
 
 returns : tie.Need-returns
-returns c = case-input-path _ _ _ _ _ _ _ c.before.before.before.before.case-input.ensures
+returns c = case_input_path _ _ _ _ _ _ _ c.before.before.before.before.case_input.ensures
     c.before.before.look-up-noting.ensures
     c.set-case-input.ensures
 

@@ -1,6 +1,6 @@
-use Rattle.cfg_merging.specs.Targets.{summarize-case}
-use Rattle.cfg_merging.specs.laws.paths.TargetsLaws.{targets-path}
-use Rattle.cfg_merging.specs.Turns.{turned, turn-first, turn-next}
+use Rattle.cfg_merging.specs.Targets.{summarize_case}
+use Rattle.cfg_merging.specs.laws.paths.TargetsLaws.{targets_path}
+use Rattle.cfg_merging.specs.Turns.{turned, turn_first, turn_next}
 use mathlib.Core.Path.{◌≡◌}
 use Prim.Native.Nat.{◌-◌}
 use borrow.Author.Rules.{rules}
@@ -8,7 +8,7 @@ use Rattle.cfg_merging.proofs.targets.deferred_targets.Statement.{statement}
 use Rattle.cfg_merging.proofs.targets.deferred_targets.Tie as tie
 
 abbrev invariant-loop : tie.invariant-loop
-invariant-loop w₀ n j₀ w j = turned summarize-case w (n - j) j ≡ turned summarize-case w₀ n 0
+invariant-loop w₀ n j₀ w j = turned summarize_case w (n - j) j ≡ turned summarize_case w₀ n 0
 
 abbrev decreases-loop : tie.decreases-loop
 decreases-loop w₀ n j₀ w j = n - j
@@ -19,8 +19,8 @@ put-set-length-requires c κs = search rules
 case-count-requires : tie.Need-case-count-requires invariant-loop decreases-loop
 case-count-requires c κs = search rules
 
-loop-holds : tie.Need-loop-init invariant-loop decreases-loop
-loop-holds c = turn-first _ _ _
+loop_holds : tie.Need-loop-init invariant-loop decreases-loop
+loop_holds c = turn_first _ _ _
 
 case-start-requires : tie.Need-case-start-requires invariant-loop decreases-loop
 case-start-requires c κs = search rules
@@ -31,28 +31,28 @@ case-length-requires c κs = search rules
 summarize-set-requires : tie.Need-summarize-set-requires invariant-loop decreases-loop
 summarize-set-requires c κs = search rules
 
-add-j : tie.Need-overflow-add-j invariant-loop decreases-loop
-add-j c = search rules
+add_j : tie.Need-overflow-add-j invariant-loop decreases-loop
+add_j c = search rules
 
-loop-less : tie.Need-loop-smaller invariant-loop decreases-loop
-loop-less c = search rules
+loop_less : tie.Need-loop-smaller invariant-loop decreases-loop
+loop_less c = search rules
 
-loop-again : tie.Need-loop-preserved invariant-loop decreases-loop
-loop-again c =
+loop_again : tie.Need-loop-preserved invariant-loop decreases-loop
+loop_again c =
     let at-case-length = c.before.before in
     let at-case-start = at-case-length.before.before in
     let at-loop-test = at-case-start.before.before in
     let at-loop = at-loop-test.before in
     rw (
-      c.summarize-set.ensures,
+      c.summarize_set.ensures,
       at-case-length.case-length.ensures,
       at-case-start.case-start.ensures,
     )
-    (turn-next _ _ _ _ at-loop.loop.invariant
+    (turn_next _ _ _ _ at-loop.loop.invariant
     at-loop-test.loop-test.true)
 
 returns : tie.Need-returns invariant-loop decreases-loop
-returns c = targets-path _ _ _ _ _ c.before.before.before.before.put-set-length.ensures c.before.before.case_count.ensures
+returns c = targets_path _ _ _ _ _ c.before.before.before.before.put-set-length.ensures c.before.before.case_count.ensures
     c.loop-test.false c.before.loop.invariant
 
 pub deferred-targets-spec : {M : Type 1} → statement M
@@ -63,11 +63,11 @@ deferred-targets-spec =
     decreases-loop
     put-set-length-requires
     case-count-requires
-    loop-holds
+    loop_holds
     case-start-requires
     case-length-requires
     summarize-set-requires
-    add-j
-    loop-less
-    loop-again
+    add_j
+    loop_less
+    loop_again
     returns)

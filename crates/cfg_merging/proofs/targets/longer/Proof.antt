@@ -15,9 +15,9 @@ returns : tie.Need-returns
 unfolding longer
 returns c = picked _ _ (lt-ltb _ _ c.if1.true)
 
-returns-2 : tie.Need-returns-2
+returns_2 : tie.Need-returns-2
 unfolding longer
-returns-2 c = passed_over _ _ (le-ltb _ _ c.if1.false)
+returns_2 c = passed_over _ _ (le-ltb _ _ c.if1.false)
 
 pub longer-spec : {M : Type 1} → statement M
-longer-spec = tie.close (tie.spec sub-if1 add-result returns returns-2)
+longer-spec = tie.close (tie.spec sub-if1 add-result returns returns_2)

@@ -1,4 +1,4 @@
-use Rattle.cfg_merging.specs.laws.paths.TargetsLaws.{bundle-new, bundle-there}
+use Rattle.cfg_merging.specs.laws.paths.TargetsLaws.{bundle_new, bundle_there}
 use borrow.Author.Rules.{rules}
 use Rattle.cfg_merging.proofs.targets.summarize_bundle.Statement.{statement}
 use Rattle.cfg_merging.proofs.targets.summarize_bundle.Tie as tie
@@ -6,14 +6,14 @@ use Rattle.cfg_merging.proofs.targets.summarize_bundle.Tie as tie
 set-start-requires : tie.Need-set-start-requires
 set-start-requires c κs = search rules
 
-set-length-requires : tie.Need-set-length-requires
-set-length-requires c κs = search rules
+set_length_requires : tie.Need-set-length-requires
+set_length_requires c κs = search rules
 
-target-requires : tie.Need-target-requires
-target-requires c κs = search rules
+target_requires : tie.Need-target-requires
+target_requires c κs = search rules
 
-accumulated-count-requires : tie.Need-accumulated-count-requires
-accumulated-count-requires c κs = search rules
+accumulated_count_requires : tie.Need-accumulated-count-requires
+accumulated_count_requires c κs = search rules
 
 find-by-target-requires : tie.Need-find-by-target-requires
 find-by-target-requires c κs = search rules
@@ -40,11 +40,11 @@ returns c =
     let at_Target = d.before.before.before in
     let at-set-length = at_Target.before.before in
     let at-set-start = at-set-length.before.before in
-    bundle-new _ _ _ _ _ _ _ at-set-start.set-start.ensures
-    at-set-length.set-length.ensures
-    at_Target.target.ensures d.before.accumulated-count.ensures
+    bundle_new _ _ _ _ _ _ _ at-set-start.set_start.ensures
+    at-set-length.set_length.ensures
+    at_Target.target.ensures d.before.accumulated_count.ensures
     at-find-by-target.find-by-target.ensures
-    at-if.if1.true at-bundle-at.bundle-at.ensures
+    at-if.if1.true at-bundle-at.bundle_at.ensures
     at-set-bundle.set-bundle.ensures
     c.before.longer.ensures c.put-set-length.ensures
 
@@ -57,8 +57,8 @@ plus-requires c κs = search rules
 set-accumulated-count-requires : tie.Need-set-accumulated-count-requires
 set-accumulated-count-requires c κs = search rules
 
-returns-2 : tie.Need-returns-2
-returns-2 c =
+returns_2 : tie.Need-returns-2
+returns_2 c =
     let at-accumulated-count = c.before.before.before in
     let at-if = at-accumulated-count.before.before in
     let at-find-by-target = at-if.before.before in
@@ -66,9 +66,9 @@ returns-2 c =
     let at_Target = d.before.before.before in
     let at-set-length = at_Target.before.before in
     let at-set-start = at-set-length.before.before in
-    bundle-there _ _ _ _ _ _ _ at-set-start.set-start.ensures
-    at-set-length.set-length.ensures
-    at_Target.target.ensures d.before.accumulated-count.ensures
+    bundle_there _ _ _ _ _ _ _ at-set-start.set_start.ensures
+    at-set-length.set_length.ensures
+    at_Target.target.ensures d.before.accumulated_count.ensures
     at-find-by-target.find-by-target.ensures
     at-if.if1.false at-accumulated-count.accumulated-count2.ensures
     c.before.plus.ensures
@@ -79,9 +79,9 @@ summarize-bundle-spec =
     tie.close
     (tie.spec
     set-start-requires
-    set-length-requires
-    target-requires
-    accumulated-count-requires
+    set_length_requires
+    target_requires
+    accumulated_count_requires
     find-by-target-requires
     bundle-at-requires
     set-bundle-requires
@@ -91,4 +91,4 @@ summarize-bundle-spec =
     accumulated-count-requires-2
     plus-requires
     set-accumulated-count-requires
-    returns-2)
+    returns_2)

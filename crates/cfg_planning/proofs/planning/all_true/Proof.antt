@@ -1,6 +1,6 @@
 use Rattle.cfg_planning.specs.Planning.{all_from, all_true}
-use Rattle.cfg_planning.specs.laws.paths.PlanningLaws.{all-fails, all-next}
-use Rattle.cfg_planning.specs.laws.paths.PlanningLaws.{few-total, all_first, all-last}
+use Rattle.cfg_planning.specs.laws.paths.PlanningLaws.{all_fails, all_next}
+use Rattle.cfg_planning.specs.laws.paths.PlanningLaws.{few_total, all_first, all_last}
 use mathlib.Core.Path.{◌≡◌, refl}
 use Prim.Native.Nat.{◌-◌, ◌≤◌}
 use borrow.Author.Tests.{not-true, not-false}
@@ -17,8 +17,8 @@ decreases-loop w places n j₀ j = n - j
 case-count-requires : tie.Need-case-count-requires invariant-loop decreases-loop
 case-count-requires c κs = search rules
 
-loop-holds : tie.Need-loop-init invariant-loop decreases-loop
-loop-holds c = (few-total _ _ c.case_count.ensures, all_first _ _ c.case_count.ensures _)
+loop_holds : tie.Need-loop-init invariant-loop decreases-loop
+loop_holds c = (few_total _ _ c.case_count.ensures, all_first _ _ c.case_count.ensures _)
 
 cast-p : tie.Need-overflow-cast-p invariant-loop decreases-loop
 cast-p c = search rules
@@ -36,27 +36,27 @@ is-true-requires : tie.Need-is-true-requires invariant-loop decreases-loop
 is-true-requires c κs = search rules
 
 returns : tie.Need-returns invariant-loop decreases-loop
-returns c = all-fails _ _ _ _ c.before.before.before.before.before.loop.invariant.1
-    c.before.before.before.before.loop-test.true refl c.before.before.per-case-condition.ensures
+returns c = all_fails _ _ _ _ c.before.before.before.before.before.loop.invariant.1
+    c.before.before.before.before.loop-test.true refl c.before.before.per_case_condition.ensures
     c.before.is_true.ensures
     (not-true _ c.if1.true)
 
-add-j : tie.Need-overflow-add-j invariant-loop decreases-loop
-add-j c = search rules
+add_j : tie.Need-overflow-add-j invariant-loop decreases-loop
+add_j c = search rules
 
-loop-less : tie.Need-loop-smaller invariant-loop decreases-loop
-loop-less c = search rules
+loop_less : tie.Need-loop-smaller invariant-loop decreases-loop
+loop_less c = search rules
 
-loop-again : tie.Need-loop-preserved invariant-loop decreases-loop
-loop-again c = (
+loop_again : tie.Need-loop-preserved invariant-loop decreases-loop
+loop_again c = (
   c.before.before.before.before.before.loop.invariant.0,
-  all-next _ _ _ _ c.before.before.before.before.before.loop.invariant.1 c.before.before.before.before.loop-test.true refl
-      c.before.before.per-case-condition.ensures c.before.is_true.ensures
+  all_next _ _ _ _ c.before.before.before.before.before.loop.invariant.1 c.before.before.before.before.loop-test.true refl
+      c.before.before.per_case_condition.ensures c.before.is_true.ensures
       (not-false _ c.if1.false),
 )
 
-returns-2 : tie.Need-returns-2 invariant-loop decreases-loop
-returns-2 c = all-last _ _ _ _ c.before.loop.invariant.1 c.loop-test.false
+returns_2 : tie.Need-returns-2 invariant-loop decreases-loop
+returns_2 c = all_last _ _ _ _ c.before.loop.invariant.1 c.loop-test.false
 
 pub all-true-spec : {M : Type 1} → statement M
 all-true-spec =
@@ -65,14 +65,14 @@ all-true-spec =
     invariant-loop
     decreases-loop
     case-count-requires
-    loop-holds
+    loop_holds
     cast-p
     mul-p
     element-copy-out-p
     per-case-condition-requires
     is-true-requires
     returns
-    add-j
-    loop-less
-    loop-again
-    returns-2)
+    add_j
+    loop_less
+    loop_again
+    returns_2)

@@ -8,9 +8,9 @@ returns : tie.Need-returns
 unfolding is_true
 returns c = picked _ _ (eq-eqb _ _ c.if1.true)
 
-returns-2 : tie.Need-returns-2
+returns_2 : tie.Need-returns-2
 unfolding is_true
-returns-2 c = passed_over _ _ (ne_eqb _ _ c.if1.false)
+returns_2 c = passed_over _ _ (ne_eqb _ _ c.if1.false)
 
 pub is-true-spec : {M : Type 1} → statement M
-is-true-spec = tie.close (tie.spec returns returns-2)
+is-true-spec = tie.close (tie.spec returns returns_2)

@@ -1,6 +1,6 @@
-use Rattle.cfg_planning.specs.Planning.{place_of, per-case-deferred}
-use Rattle.cfg_planning.specs.laws.paths.PlanningLaws.{few-total, places-first}
-use Rattle.cfg_merging.specs.Turns.{turned, turn-next, turn_last}
+use Rattle.cfg_planning.specs.Planning.{place_of, per_case_deferred}
+use Rattle.cfg_planning.specs.laws.paths.PlanningLaws.{few_total, places_first}
+use Rattle.cfg_merging.specs.Turns.{turned, turn_next, turn_last}
 use mathlib.Core.Path.{◌≡◌}
 use Prim.Native.Nat.{◌-◌, ◌≤◌}
 use lib.ListN.{set}
@@ -9,7 +9,7 @@ use Rattle.cfg_planning.proofs.planning.per_case_deferred.Statement.{statement}
 use Rattle.cfg_planning.proofs.planning.per_case_deferred.Tie as tie
 
 abbrev invariant-loop : tie.invariant-loop
-invariant-loop w t n places₀ j₀ places j = (n ≤ 8) × (turned (λ ps i. set ps i (place_of w t i)) places (n - j) j ≡ per-case-deferred w t)
+invariant-loop w t n places₀ j₀ places j = (n ≤ 8) × (turned (λ ps i. set ps i (place_of w t i)) places (n - j) j ≡ per_case_deferred w t)
 
 abbrev decreases-loop : tie.decreases-loop
 decreases-loop w t n places₀ j₀ places j = n - j
@@ -17,8 +17,8 @@ decreases-loop w t n places₀ j₀ places j = n - j
 case-count-requires : tie.Need-case-count-requires invariant-loop decreases-loop
 case-count-requires c κs = search rules
 
-loop-holds : tie.Need-loop-init invariant-loop decreases-loop
-loop-holds c = (few-total _ _ c.case_count.ensures, places-first _ _ c.case_count.ensures _)
+loop_holds : tie.Need-loop-init invariant-loop decreases-loop
+loop_holds c = (few_total _ _ c.case_count.ensures, places_first _ _ c.case_count.ensures _)
 
 case-start-requires : tie.Need-case-start-requires invariant-loop decreases-loop
 case-start-requires c κs = search rules
@@ -38,17 +38,17 @@ mul-places c = search rules
 array-write-places : tie.Need-array-write-places invariant-loop decreases-loop
 array-write-places c = search rules
 
-add-j : tie.Need-overflow-add-j invariant-loop decreases-loop
-add-j c = search rules
+add_j : tie.Need-overflow-add-j invariant-loop decreases-loop
+add_j c = search rules
 
-loop-less : tie.Need-loop-smaller invariant-loop decreases-loop
-loop-less c = search rules
+loop_less : tie.Need-loop-smaller invariant-loop decreases-loop
+loop_less c = search rules
 
-loop-again : tie.Need-loop-preserved invariant-loop decreases-loop
-loop-again c = (
+loop_again : tie.Need-loop-preserved invariant-loop decreases-loop
+loop_again c = (
   c.before.before.before.before.loop.invariant.0,
   rw (c.find-by-target.ensures, c.before.before.case-start.ensures, c.before.case-length.ensures)
-      (turn-next _ _ _ _ c.before.before.before.before.loop.invariant.1 c.before.before.before.loop-test.true),
+      (turn_next _ _ _ _ c.before.before.before.before.loop.invariant.1 c.before.before.before.loop-test.true),
 )
 
 returns : tie.Need-returns invariant-loop decreases-loop
@@ -61,14 +61,14 @@ per-case-deferred-spec =
     invariant-loop
     decreases-loop
     case-count-requires
-    loop-holds
+    loop_holds
     case-start-requires
     case-length-requires
     find-by-target-requires
     cast-places
     mul-places
     array-write-places
-    add-j
-    loop-less
-    loop-again
+    add_j
+    loop_less
+    loop_again
     returns)

@@ -1,7 +1,7 @@
-use Rattle.cfg_planning.specs.Planning.{unique-from, unique-input}
-use Rattle.cfg_planning.specs.laws.paths.PlanningLaws.{unique-past, unique-differs}
-use Rattle.cfg_planning.specs.laws.paths.PlanningLaws.{few-total, unique-first, unique-last}
-use Rattle.cfg_planning.specs.laws.paths.PlanningLaws.{unique-next}
+use Rattle.cfg_planning.specs.Planning.{unique_from, unique_input}
+use Rattle.cfg_planning.specs.laws.paths.PlanningLaws.{unique_past, unique_differs}
+use Rattle.cfg_planning.specs.laws.paths.PlanningLaws.{few_total, unique_first, unique_last}
+use Rattle.cfg_planning.specs.laws.paths.PlanningLaws.{unique_next}
 use mathlib.Core.Path.{◌≡◌, refl}
 use mathlib.Core.Logic.{⊎_elim}
 use Prim.Native.Nat.{◌-◌, ◌≤◌}
@@ -10,7 +10,7 @@ use Rattle.cfg_planning.proofs.planning.unique_input.Statement.{statement}
 use Rattle.cfg_planning.proofs.planning.unique_input.Tie as tie
 
 abbrev invariant-loop : tie.invariant-loop
-invariant-loop w places k n found₀ j₀ found j = (n ≤ 8) × (unique-from w places k (n - j) j found ≡ unique-input w places k)
+invariant-loop w places k n found₀ j₀ found j = (n ≤ 8) × (unique_from w places k (n - j) j found ≡ unique_input w places k)
 
 abbrev decreases-loop : tie.decreases-loop
 decreases-loop w places k n found₀ j₀ found j = n - j
@@ -18,8 +18,8 @@ decreases-loop w places k n found₀ j₀ found j = n - j
 case-count-requires : tie.Need-case-count-requires invariant-loop decreases-loop
 case-count-requires c κs = search rules
 
-loop-holds : tie.Need-loop-init invariant-loop decreases-loop
-loop-holds c = (few-total _ _ c.case_count.ensures, unique-first _ _ c.case_count.ensures _ _)
+loop_holds : tie.Need-loop-init invariant-loop decreases-loop
+loop_holds c = (few_total _ _ c.case_count.ensures, unique_first _ _ c.case_count.ensures _ _)
 
 cast-p : tie.Need-overflow-cast-p invariant-loop decreases-loop
 cast-p c = search rules
@@ -46,32 +46,32 @@ returns c =
     let at-if = at-target-input.before in
     let at-loop-test = at-if.before.before in
     let at-loop = at-loop-test.before in
-    unique-differs _ _ _ _ _ _ at-loop.loop.invariant.1
+    unique_differs _ _ _ _ _ _ at-loop.loop.invariant.1
     at-loop-test.loop-test.true _ refl at-if.if1.true
     at-target-input.target-input.ensures
-    at-in-parent.in-parent.ensures c.before.with-passed.ensures c.if2.true
+    at-in-parent.in_parent.ensures c.before.with_passed.ensures c.if2.true
 
-add-j : tie.Need-overflow-add-j invariant-loop decreases-loop
-add-j c = search rules
+add_j : tie.Need-overflow-add-j invariant-loop decreases-loop
+add_j c = search rules
 
-loop-less : tie.Need-loop-smaller invariant-loop decreases-loop
-loop-less c = search rules
+loop_less : tie.Need-loop-smaller invariant-loop decreases-loop
+loop_less c = search rules
 
-loop-again : tie.Need-loop-preserved invariant-loop decreases-loop
-loop-again c = (
+loop_again : tie.Need-loop-preserved invariant-loop decreases-loop
+loop_again c = (
   c.before.before.before.loop.invariant.0,
   ⊎_elim
       (λ x. rw x.5
-      (unique-next _ _ _ _ _ _ c.before.before.before.loop.invariant.1 c.before.before.loop-test.true _ refl x.0.taken
+      (unique_next _ _ _ _ _ _ c.before.before.before.loop.invariant.1 c.before.before.loop-test.true _ refl x.0.taken
       x.1.ensures x.2.ensures
       x.3.ensures x.4.left))
-      (λ x. rw x.1 (unique-past _ _ _ _ _ _ c.before.before.before.loop.invariant.1 c.before.before.loop-test.true _ refl
+      (λ x. rw x.1 (unique_past _ _ _ _ _ _ c.before.before.before.loop.invariant.1 c.before.before.loop-test.true _ refl
       x.0.left))
       c.if1.branch,
 )
 
-returns-2 : tie.Need-returns-2 invariant-loop decreases-loop
-returns-2 c = unique-last _ _ _ _ _ _ c.before.loop.invariant.1 c.loop-test.false
+returns_2 : tie.Need-returns-2 invariant-loop decreases-loop
+returns_2 c = unique_last _ _ _ _ _ _ c.before.loop.invariant.1 c.loop-test.false
 
 pub unique-input-spec : {M : Type 1} → statement M
 unique-input-spec =
@@ -80,7 +80,7 @@ unique-input-spec =
     invariant-loop
     decreases-loop
     case-count-requires
-    loop-holds
+    loop_holds
     cast-p
     mul-p
     element-copy-out-p
@@ -88,7 +88,7 @@ unique-input-spec =
     in-parent-requires
     with-passed-requires
     returns
-    add-j
-    loop-less
-    loop-again
-    returns-2)
+    add_j
+    loop_less
+    loop_again
+    returns_2)

@@ -1,11 +1,11 @@
 use borrow.Author.Rules.{rules}
 use Rattle.cfg_regions.proofs.claim.claim_body.Statement.{statement}
 use Rattle.cfg_regions.proofs.claim.claim_body.Tie as tie
-use Rattle.cfg_regions.specs.laws.ByStateLaws.{body-without, body-loop}
-use Rattle.cfg_regions.specs.laws.ByStateLaws.{body-plain}
+use Rattle.cfg_regions.specs.laws.ByStateLaws.{body_without, body_loop}
+use Rattle.cfg_regions.specs.laws.ByStateLaws.{body_plain}
 
-set-region-state-requires : tie.Need-set-region-state-requires
-set-region-state-requires c κs = search rules
+set_region_state_requires : tie.Need-set-region-state-requires
+set_region_state_requires c κs = search rules
 
 set-structured-body-requires : tie.Need-set-structured-body-requires
 set-structured-body-requires c κs = search rules
@@ -25,21 +25,21 @@ returns c =
     let at-backedge-count = at_zero.before in
     let at-set-structured-body = at-backedge-count.before.before in
     let at-set-region-state = at-set-structured-body.before.before in
-    λ g st. body-plain g _ _ at-set-region-state.set-region-state.ensures
+    λ g st. body_plain g _ _ at-set-region-state.set-region-state.ensures
     at-set-structured-body.set-structured-body.ensures at-backedge-count.backedge-count.ensures
     at_zero.zero.ensures c.before.same.ensures c.if1.true
 
 find-backedge-requires : tie.Need-find-backedge-requires
 find-backedge-requires c κs = search rules
 
-returns-2 : tie.Need-returns-2
-returns-2 c =
+returns_2 : tie.Need-returns-2
+returns_2 c =
     let d = c.before.before.before.before in
     let at_zero = d.before.before in
     let at-backedge-count = at_zero.before in
     let at-set-structured-body = at-backedge-count.before.before in
     let at-set-region-state = at-set-structured-body.before.before in
-    λ g st. body-without g _ _ at-set-region-state.set-region-state.ensures
+    λ g st. body_without g _ _ at-set-region-state.set-region-state.ensures
     at-set-structured-body.set-structured-body.ensures at-backedge-count.backedge-count.ensures
     at_zero.zero.ensures d.before.same.ensures d.if1.false c.before.before.find-backedge.ensures c.if2.true
 
@@ -49,30 +49,30 @@ structurize-loop-requires c κs = search rules
 claim-from-made-requires : tie.Need-claim-from-made-requires
 claim-from-made-requires c κs = search rules
 
-returns-3 : tie.Need-returns-3
-returns-3 c =
+returns_3 : tie.Need-returns-3
+returns_3 c =
     let d = c.before.before.before.before.before.before.before in
     let at_zero = d.before.before in
     let at-backedge-count = at_zero.before in
     let at-set-structured-body = at-backedge-count.before.before in
     let at-set-region-state = at-set-structured-body.before.before in
-    λ g st. body-loop g _ _ at-set-region-state.set-region-state.ensures
+    λ g st. body_loop g _ _ at-set-region-state.set-region-state.ensures
     at-set-structured-body.set-structured-body.ensures at-backedge-count.backedge-count.ensures
     at_zero.zero.ensures d.before.same.ensures d.if1.false c.before.before.before.before.before.find-backedge.ensures
-    c.before.before.before.if2.false c.before.structurize-loop.ensures c.claim-from-made.ensures
+    c.before.before.before.if2.false c.before.structurize_loop.ensures c.claim-from-made.ensures
 
 pub claim-body-spec : {M : Type 1} → statement M
 claim-body-spec =
     tie.close
     (tie.spec
-    set-region-state-requires
+    set_region_state_requires
     set-structured-body-requires
     backedge-count-requires
     zero-requires
     same-requires
     returns
     find-backedge-requires
-    returns-2
+    returns_2
     structurize-loop-requires
     claim-from-made-requires
-    returns-3)
+    returns_3)

@@ -1,7 +1,7 @@
 use borrow.Author.Rules.{rules}
 use Rattle.cfg_regions.proofs.inst.add_blocks.Statement.{statement}
 use Rattle.cfg_regions.proofs.inst.add_blocks.Tie as tie
-use Rattle.cfg_regions.specs.ByInst.{no_blocks, some-blocks}
+use Rattle.cfg_regions.specs.ByInst.{no_blocks, some_blocks}
 use mathlib.Core.Path.{sym, ◌∙◌}
 
 block-count-requires : tie.Need-block-count-requires
@@ -11,7 +11,7 @@ set-children-requires : tie.Need-set-children-requires
 set-children-requires c κs = search rules
 
 returns : tie.Need-returns
-returns c = λ g st. no_blocks (sym (c.before.before.before.block-count.ensures g st) ∙ c.before.before.if1.true)
+returns c = λ g st. no_blocks (sym (c.before.before.before.block_count.ensures g st) ∙ c.before.before.if1.true)
     c.set-children.ensures
 
 add-cell-requires : tie.Need-add-cell-requires
@@ -20,9 +20,9 @@ add-cell-requires c κs = search rules
 set-children-requires-2 : tie.Need-set-children-requires-2
 set-children-requires-2 c κs = search rules
 
-returns-2 : tie.Need-returns-2
-returns-2 c = λ g st. some-blocks (λ e. c.before.before.before.before.if1.false
-    (c.before.before.before.before.before.block-count.ensures g st ∙ e)) c.before.before.add-cell.ensures
+returns_2 : tie.Need-returns-2
+returns_2 c = λ g st. some_blocks (λ e. c.before.before.before.before.if1.false
+    (c.before.before.before.before.before.block_count.ensures g st ∙ e)) c.before.before.add-cell.ensures
     c.set-children2.ensures
 
 pub add-blocks-spec : {M : Type 1} → statement M
@@ -34,4 +34,4 @@ add-blocks-spec =
     returns
     add-cell-requires
     set-children-requires-2
-    returns-2)
+    returns_2)

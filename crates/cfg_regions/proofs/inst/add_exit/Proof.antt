@@ -1,7 +1,7 @@
 use borrow.Author.Rules.{rules}
 use Rattle.cfg_regions.proofs.inst.add_exit.Statement.{statement}
 use Rattle.cfg_regions.proofs.inst.add_exit.Tie as tie
-use Rattle.cfg_regions.specs.laws.ByInstLaws.{exit-none, exit-some}
+use Rattle.cfg_regions.specs.laws.ByInstLaws.{exit_none, exit_some}
 
 define-node-requires : tie.Need-define-node-requires
 define-node-requires c κs = search rules
@@ -13,7 +13,7 @@ enum_told : tie.Need-enum-told
 enum_told c = search rules
 
 returns : tie.Need-returns
-returns c = exit-none c.before.before.define-node.ensures c.enum_told.given.1
+returns c = exit_none c.before.before.define_node.ensures c.enum_told.given.1
 
 children-requires : tie.Need-children-requires
 children-requires c κs = search rules
@@ -24,13 +24,13 @@ add-cell-requires c κs = search rules
 set-children-requires : tie.Need-set-children-requires
 set-children-requires c κs = search rules
 
-returns-2 : tie.Need-returns-2
-returns-2 c =
+returns_2 : tie.Need-returns-2
+returns_2 c =
     let at-add-cell = c.before.before in
     let at-children = at-add-cell.before.before in
     let at-node = at-children.before.before.before in
     let at-define-node = at-node.before.before in
-    exit-some at-define-node.define-node.ensures
+    exit_some at-define-node.define_node.ensures
     at-node.node.given.1 at-children.children.ensures
     at-add-cell.add-cell.ensures c.set-children.ensures
 
@@ -45,4 +45,4 @@ add-exit-spec =
     children-requires
     add-cell-requires
     set-children-requires
-    returns-2)
+    returns_2)

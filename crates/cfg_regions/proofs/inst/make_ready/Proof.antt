@@ -10,14 +10,14 @@ backedges-deferred-requires c κs = search rules
 set-backedge-count-requires : tie.Need-set-backedge-count-requires
 set-backedge-count-requires c κs = search rules
 
-set-region-state-requires : tie.Need-set-region-state-requires
-set-region-state-requires c κs = search rules
+set_region_state_requires : tie.Need-set-region-state-requires
+set_region_state_requires c κs = search rules
 
 returns : tie.Need-returns
 returns c = c.set-region-state.ensures ∙ rw (
   c.before.before.set-backedge-count.ensures,
-  edges_fit _ c.before.before.before.before.backedges-deferred.ensures.1,
-  c.before.before.before.before.backedges-deferred.ensures.0,
+  edges_fit _ c.before.before.before.before.backedges_deferred.ensures.1,
+  c.before.before.before.before.backedges_deferred.ensures.0,
 )
 
 pub make-ready-spec : {M : Type 1} → statement M
@@ -26,5 +26,5 @@ make-ready-spec =
     (tie.spec
     backedges-deferred-requires
     set-backedge-count-requires
-    set-region-state-requires
+    set_region_state_requires
     returns)

@@ -10,7 +10,7 @@ bundle-at-requires : tie.Need-bundle-at-requires
 bundle-at-requires c κs = search rules
 
 returns : tie.Need-returns
-returns c = c.bundle-at.ensures ∙ rw c.before.set-start.ensures
+returns c = c.bundle_at.ensures ∙ rw c.before.set_start.ensures
 
 pub own-bundle-spec : {M : Type 1} → statement M
 own-bundle-spec = tie.close (tie.spec set-start-requires bundle-at-requires returns)

@@ -2,14 +2,14 @@ use mathlib.Core.Path.{◌≡◌, sym, ◌∙◌}
 use Prim.Native.Nat.{◌-◌, ◌≤◌}
 use native.Mathlib.Omega.{arith}
 use borrow.Author.Rules.{rules}
-use Rattle.cfg_select_nodes.specs.Cases.{any-from, any-non-empty-case}
-use Rattle.cfg_select_nodes.specs.laws.paths.CasesLaws.{any_found, any-on, any-over}
-use Rattle.cfg_select_nodes.specs.laws.paths.CasesLaws.{any-start}
+use Rattle.cfg_select_nodes.specs.Cases.{any_from, any_non_empty_case}
+use Rattle.cfg_select_nodes.specs.laws.paths.CasesLaws.{any_found, any_on, any_over}
+use Rattle.cfg_select_nodes.specs.laws.paths.CasesLaws.{any_start}
 use Rattle.cfg_select_nodes.proofs.cases.any_non_empty_case.Statement.{statement}
 use Rattle.cfg_select_nodes.proofs.cases.any_non_empty_case.Tie as tie
 
 abbrev invariant-loop : tie.invariant-loop
-invariant-loop w n j₀ j = (j ≤ n) × (any-from w (n - j) j ≡ any-non-empty-case w)
+invariant-loop w n j₀ j = (j ≤ n) × (any_from w (n - j) j ≡ any_non_empty_case w)
 
 abbrev decreases-loop : tie.decreases-loop
 decreases-loop w n j₀ j = n - j
@@ -17,31 +17,31 @@ decreases-loop w n j₀ j = n - j
 case-count-requires : tie.Need-case-count-requires invariant-loop decreases-loop
 case-count-requires c κs = search rules
 
-loop-holds : tie.Need-loop-init invariant-loop decreases-loop
-loop-holds c = (omega arith, any-start _ _ c.case_count.ensures)
+loop_holds : tie.Need-loop-init invariant-loop decreases-loop
+loop_holds c = (omega arith, any_start _ _ c.case_count.ensures)
 
 children-of-requires : tie.Need-children-of-requires invariant-loop decreases-loop
 children-of-requires c κs = search rules
 
 returns : tie.Need-returns invariant-loop decreases-loop
 returns c = any_found _ _ _ c.before.before.before.before.loop.invariant.1 c.before.before.before.loop-test.true
-    (λ e. c.if1.true (c.before.before.children-of.ensures ∙ e))
+    (λ e. c.if1.true (c.before.before.children_of.ensures ∙ e))
 
-add-j : tie.Need-overflow-add-j invariant-loop decreases-loop
-add-j c = search rules
+add_j : tie.Need-overflow-add-j invariant-loop decreases-loop
+add_j c = search rules
 
-loop-less : tie.Need-loop-smaller invariant-loop decreases-loop
-loop-less c = search rules
+loop_less : tie.Need-loop-smaller invariant-loop decreases-loop
+loop_less c = search rules
 
-loop-again : tie.Need-loop-preserved invariant-loop decreases-loop
-loop-again c = (
+loop_again : tie.Need-loop-preserved invariant-loop decreases-loop
+loop_again c = (
   omega arith,
-  any-on _ _ _ c.before.before.before.before.loop.invariant.1 c.before.before.before.loop-test.true
-      (sym c.before.before.children-of.ensures ∙ c.if1.false),
+  any_on _ _ _ c.before.before.before.before.loop.invariant.1 c.before.before.before.loop-test.true
+      (sym c.before.before.children_of.ensures ∙ c.if1.false),
 )
 
-returns-2 : tie.Need-returns-2 invariant-loop decreases-loop
-returns-2 c = any-over _ _ _ c.before.loop.invariant.1 c.loop-test.false
+returns_2 : tie.Need-returns-2 invariant-loop decreases-loop
+returns_2 c = any_over _ _ _ c.before.loop.invariant.1 c.loop-test.false
 
 pub any-non-empty-case-spec : {M : Type 1} → statement M
 any-non-empty-case-spec =
@@ -50,10 +50,10 @@ any-non-empty-case-spec =
     invariant-loop
     decreases-loop
     case-count-requires
-    loop-holds
+    loop_holds
     children-of-requires
     returns
-    add-j
-    loop-less
-    loop-again
-    returns-2)
+    add_j
+    loop_less
+    loop_again
+    returns_2)

@@ -1,5 +1,5 @@
 use mathlib.Core.Path.{refl, sym, ◌∙◌}
-use Rattle.cfg_select_nodes.specs.Cases.{has-region, new-region, no-region}
+use Rattle.cfg_select_nodes.specs.Cases.{has_region, new_region, no_region}
 use borrow.Author.Rules.{rules}
 use Rattle.cfg_select_nodes.proofs.cases.case_region.Statement.{statement}
 use Rattle.cfg_select_nodes.proofs.cases.case_region.Tie as tie
@@ -8,7 +8,7 @@ case-kind-requires : tie.Need-case-kind-requires
 case-kind-requires c κs = search rules
 
 returns : tie.Need-returns
-returns c = has-region (sym c.before.case-kind.ensures ∙ c.if1.true) refl
+returns c = has_region (sym c.before.case_kind.ensures ∙ c.if1.true) refl
 
 define-region-requires : tie.Need-define-region-requires
 define-region-requires c κs = search rules
@@ -22,20 +22,20 @@ enum-known-r c = search rules
 set-case-body-requires : tie.Need-set-case-body-requires
 set-case-body-requires c κs = search rules
 
-returns-2 : tie.Need-returns-2
-returns-2 c = no-region (λ e. c.before.before.before.before.if1.false
-    (c.before.before.before.before.before.case-kind.ensures ∙ e))
-    (rw c.enum_told.given.1 at c.before.before.define-region.ensures)
+returns_2 : tie.Need-returns-2
+returns_2 c = no_region (λ e. c.before.before.before.before.if1.false
+    (c.before.before.before.before.before.case_kind.ensures ∙ e))
+    (rw c.enum_told.given.1 at c.before.before.define_region.ensures)
 
-returns-3 : tie.Need-returns-3
-returns-3 c =
+returns_3 : tie.Need-returns-3
+returns_3 c =
     let at-r = c.before.before.before in
     let at-define-region = at-r.before.before in
     let at-if = at-define-region.before.before in
     let at-case-kind = at-if.before in
-    new-region (λ e. at-if.if1.false
-    (at-case-kind.case-kind.ensures ∙ e))
-    (rw at-r.r.given.1 at at-define-region.define-region.ensures)
+    new_region (λ e. at-if.if1.false
+    (at-case-kind.case_kind.ensures ∙ e))
+    (rw at-r.r.given.1 at at-define-region.define_region.ensures)
     c.set-case-body.ensures
 
 pub case-region-spec : {M : Type 1} → statement M
@@ -48,5 +48,5 @@ case-region-spec =
     enum_told
     enum-known-r
     set-case-body-requires
-    returns-2
-    returns-3)
+    returns_2
+    returns_3)

@@ -17,8 +17,8 @@ decreases-loop w₀ n j₀ w j = n - j
 case-count-requires : tie.Need-case-count-requires invariant-loop decreases-loop
 case-count-requires c κs = search rules
 
-loop-holds : tie.Need-loop-init invariant-loop decreases-loop
-loop-holds c = (omega arith, begins _ _ _)
+loop_holds : tie.Need-loop-init invariant-loop decreases-loop
+loop_holds c = (omega arith, begins _ _ _)
 
 case-region-requires : tie.Need-case-region-requires invariant-loop decreases-loop
 case-region-requires c κs = search rules
@@ -34,26 +34,26 @@ returns c =
     let at-case-count = at-loop.before in
     rw (← at-case-count.case_count.ensures)
     (refused _ _ _ _ _ at-loop.loop.invariant.1 at-loop-test.loop-test.true
-    (rw c.enum_told.given.1 at at-case-region.case-region.ensures))
+    (rw c.enum_told.given.1 at at-case-region.case_region.ensures))
 
-enum-told-2 : tie.Need-enum-told-2 invariant-loop decreases-loop
-enum-told-2 c = search rules
+enum_told_2 : tie.Need-enum-told-2 invariant-loop decreases-loop
+enum_told_2 c = search rules
 
-add-j : tie.Need-overflow-add-j invariant-loop decreases-loop
-add-j c = search rules
+add_j : tie.Need-overflow-add-j invariant-loop decreases-loop
+add_j c = search rules
 
-loop-less : tie.Need-loop-smaller invariant-loop decreases-loop
-loop-less c = search rules
+loop_less : tie.Need-loop-smaller invariant-loop decreases-loop
+loop_less c = search rules
 
-loop-again : tie.Need-loop-preserved invariant-loop decreases-loop
-loop-again c = (
+loop_again : tie.Need-loop-preserved invariant-loop decreases-loop
+loop_again c = (
   omega arith,
   turned _ _ _ _ _ c.before.before.before.before.before.loop.invariant.1 c.before.before.before.before.loop-test.true
-      (rw c.enum-told2.given.1 at c.before.before.case-region.ensures),
+      (rw c.enum-told2.given.1 at c.before.before.case_region.ensures),
 )
 
-returns-2 : tie.Need-returns-2 invariant-loop decreases-loop
-returns-2 c = rw (← c.before.before.case_count.ensures) (over _ _ _ _ _ c.before.loop.invariant.1 c.loop-test.false)
+returns_2 : tie.Need-returns-2 invariant-loop decreases-loop
+returns_2 c = rw (← c.before.before.case_count.ensures) (over _ _ _ _ _ c.before.loop.invariant.1 c.loop-test.false)
 
 pub case-regions-spec : {M : Type 1} → statement M
 case-regions-spec =
@@ -62,12 +62,12 @@ case-regions-spec =
     invariant-loop
     decreases-loop
     case-count-requires
-    loop-holds
+    loop_holds
     case-region-requires
     enum_told
     returns
-    enum-told-2
-    add-j
-    loop-less
-    loop-again
-    returns-2)
+    enum_told_2
+    add_j
+    loop_less
+    loop_again
+    returns_2)

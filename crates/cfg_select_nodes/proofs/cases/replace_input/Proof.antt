@@ -1,5 +1,5 @@
 use mathlib.Core.Path.{sym, ◌∙◌}
-use Rattle.cfg_select_nodes.specs.laws.paths.CasesLaws.{replaced-claimed, replaced-not}
+use Rattle.cfg_select_nodes.specs.laws.paths.CasesLaws.{replaced_claimed, replaced_not}
 use borrow.Author.Rules.{rules}
 use Rattle.cfg_select_nodes.proofs.cases.replace_input.Statement.{statement}
 use Rattle.cfg_select_nodes.proofs.cases.replace_input.Tie as tie
@@ -22,12 +22,12 @@ returns c =
     let at-case-inputs = at-case-body.before.before in
     let at-if = at-case-inputs.before.before in
     let at-case-kind = at-if.before in
-    replaced-claimed _ _ (sym at-case-kind.case-kind.ensures ∙ at-if.if1.true) at-case-body.case-body.ensures
-    at-case-inputs.case-inputs.ensures
-    c.insert-rewrites.ensures
+    replaced_claimed _ _ (sym at-case-kind.case_kind.ensures ∙ at-if.if1.true) at-case-body.case_body.ensures
+    at-case-inputs.case_inputs.ensures
+    c.insert_rewrites.ensures
 
-returns-2 : tie.Need-returns-2
-returns-2 c = replaced-not _ _ (λ e. c.if1.false (c.before.case-kind.ensures ∙ e))
+returns_2 : tie.Need-returns-2
+returns_2 c = replaced_not _ _ (λ e. c.if1.false (c.before.case_kind.ensures ∙ e))
 
 pub replace-input-spec : {M : Type 1} → statement M
 replace-input-spec =
@@ -38,4 +38,4 @@ replace-input-spec =
     case-body-requires
     insert-rewrites-requires
     returns
-    returns-2)
+    returns_2)

@@ -1,4 +1,4 @@
-use Rattle.cfg_select_nodes.specs.Selects.{select-added}
+use Rattle.cfg_select_nodes.specs.Selects.{select_added}
 use borrow.Author.Rules.{rules}
 use Rattle.cfg_select_nodes.proofs.define.add_select.Statement.{statement}
 use Rattle.cfg_select_nodes.proofs.define.add_select.Tie as tie
@@ -20,7 +20,7 @@ returns c =
     let at-add-cell = c.before.before in
     let at-children = at-add-cell.before.before in
     let at-case-cells = at-children.before.before in
-    select-added at-case-cells.case-cells.ensures
+    select_added at-case-cells.case-cells.ensures
     at-children.children.ensures at-add-cell.add-cell.ensures c.set-children.ensures
 
 pub add-select-spec : {M : Type 1} → statement M

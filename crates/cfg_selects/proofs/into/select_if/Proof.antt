@@ -1,12 +1,12 @@
 use borrow.Author.Tests.{not-true, not-false}
-use Rattle.cfg_selects.specs.laws.paths.IntoLaws.{if-full, if-made}
-use Rattle.cfg_selects.specs.laws.paths.IntoLaws.{if-not}
+use Rattle.cfg_selects.specs.laws.paths.IntoLaws.{if_full, if_made}
+use Rattle.cfg_selects.specs.laws.paths.IntoLaws.{if_not}
 use borrow.Author.Rules.{rules}
 use Rattle.cfg_selects.proofs.into.select_if.Statement.{statement}
 use Rattle.cfg_selects.proofs.into.select_if.Tie as tie
 
 returns : tie.Need-returns
-returns c = if-not _ _ _ _ _ (not-true _ c.if1.true)
+returns c = if_not _ _ _ _ _ (not-true _ c.if1.true)
 
 define-select-requires : tie.Need-define-select-requires
 define-select-requires c κs = search rules
@@ -20,17 +20,17 @@ enum-known-h c = search rules
 emit-bundles-requires : tie.Need-emit-bundles-requires
 emit-bundles-requires c κs = search rules
 
-returns-2 : tie.Need-returns-2
-returns-2 c = if-full _ _ _ _ _ (not-false _ c.before.before.before.before.if1.false) c.before.before.define-select.ensures
+returns_2 : tie.Need-returns-2
+returns_2 c = if_full _ _ _ _ _ (not-false _ c.before.before.before.before.if1.false) c.before.before.define_select.ensures
     c.enum_told.given.1
 
-returns-3 : tie.Need-returns-3
-returns-3 c =
+returns_3 : tie.Need-returns-3
+returns_3 c =
     let at-h = c.before.before.before in
     let at-define-select = at-h.before.before in
     let at-if = at-define-select.before.before in
-    if-made _ _ _ _ _ (not-false _ at-if.if1.false)
-    at-define-select.define-select.ensures at-h.h.given.1 c.emit-bundles.ensures
+    if_made _ _ _ _ _ (not-false _ at-if.if1.false)
+    at-define-select.define_select.ensures at-h.h.given.1 c.emit-bundles.ensures
 
 pub select-if-spec : {M : Type 1} → statement M
 select-if-spec =
@@ -41,5 +41,5 @@ select-if-spec =
     enum_told
     enum-known-h
     emit-bundles-requires
-    returns-2
-    returns-3)
+    returns_2
+    returns_3)

@@ -1,4 +1,4 @@
-use Rattle.cfg_selects.specs.laws.paths.IntoLaws.{select-none, select-all}
+use Rattle.cfg_selects.specs.laws.paths.IntoLaws.{select_none, select_all}
 use borrow.Author.Rules.{rules}
 use Rattle.cfg_selects.proofs.into.structurize_select.Statement.{statement}
 use Rattle.cfg_selects.proofs.into.structurize_select.Tie as tie
@@ -32,19 +32,19 @@ returns c =
     let at-deferred-targets = at-plan-bundles.before.before in
     let at-rewrite-cases = at-deferred-targets.before.before in
     let at-any-non-empty-case = at-rewrite-cases.before.before in
-    select-none _ _ _ _ at-any-non-empty-case.any-non-empty-case.ensures at-rewrite-cases.rewrite-cases.ensures
-    at-deferred-targets.deferred-targets.ensures
-    at-plan-bundles.plan-bundles.ensures at-either.either.ensures
-    at-select-if.select-if.ensures c.enum_told.given.1
+    select_none _ _ _ _ at-any-non-empty-case.any_non_empty_case.ensures at-rewrite-cases.rewrite_cases.ensures
+    at-deferred-targets.deferred_targets.ensures
+    at-plan-bundles.plan_bundles.ensures at-either.either.ensures
+    at-select-if.select_if.ensures c.enum_told.given.1
 
-enum-told-2 : tie.Need-enum-told-2
-enum-told-2 c = search rules
+enum_told_2 : tie.Need-enum-told-2
+enum_told_2 c = search rules
 
 replace-inputs-requires : tie.Need-replace-inputs-requires
 replace-inputs-requires c κs = search rules
 
-returns-2 : tie.Need-returns-2
-returns-2 c =
+returns_2 : tie.Need-returns-2
+returns_2 c =
     let at-enum-told = c.before.before in
     let at-select-if = at-enum-told.before.before in
     let at-either = at-select-if.before.before in
@@ -52,10 +52,10 @@ returns-2 c =
     let at-deferred-targets = at-plan-bundles.before.before in
     let at-rewrite-cases = at-deferred-targets.before.before in
     let at-any-non-empty-case = at-rewrite-cases.before.before in
-    select-all _ _ _ _ at-any-non-empty-case.any-non-empty-case.ensures at-rewrite-cases.rewrite-cases.ensures at-deferred-targets.deferred-targets.ensures
-    at-plan-bundles.plan-bundles.ensures
-    at-either.either.ensures at-select-if.select-if.ensures
-    at-enum-told.enum-told2.given.1 c.replace-inputs.ensures
+    select_all _ _ _ _ at-any-non-empty-case.any_non_empty_case.ensures at-rewrite-cases.rewrite_cases.ensures at-deferred-targets.deferred_targets.ensures
+    at-plan-bundles.plan_bundles.ensures
+    at-either.either.ensures at-select-if.select_if.ensures
+    at-enum-told.enum-told2.given.1 c.replace_inputs.ensures
 
 pub structurize-select-spec : {M : Type 1} → statement M
 structurize-select-spec =
@@ -69,6 +69,6 @@ structurize-select-spec =
     select-if-requires
     enum_told
     returns
-    enum-told-2
+    enum_told_2
     replace-inputs-requires
-    returns-2)
+    returns_2)

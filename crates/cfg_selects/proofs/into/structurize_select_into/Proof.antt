@@ -1,4 +1,4 @@
-use Rattle.cfg_selects.specs.laws.paths.IntoLaws.{into-refused, into_one, into-none, into-all}
+use Rattle.cfg_selects.specs.laws.paths.IntoLaws.{into_refused, into_one, into_none, into_all}
 use borrow.Author.Rules.{rules}
 use Rattle.cfg_selects.proofs.into.structurize_select_into.Statement.{statement}
 use Rattle.cfg_selects.proofs.into.structurize_select_into.Tie as tie
@@ -29,19 +29,19 @@ returns c =
     let at-case-at = at-unclaimed-case.before.before in
     let at-if = at-case-at.before.before in
     let at-convergent-case = at-if.before in
-    into-refused _ _ _ _ at-convergent-case.convergent-case.ensures at-if.if1.true
+    into_refused _ _ _ _ at-convergent-case.convergent_case.ensures at-if.if1.true
     at-case-at.case_at.ensures
-    at-unclaimed-case.unclaimed-case.ensures
-    at-set-case.set-case.ensures at-structurize-select.structurize-select.ensures c.enum_told.given.1
+    at-unclaimed-case.unclaimed_case.ensures
+    at-set-case.set-case.ensures at-structurize-select.structurize_select.ensures c.enum_told.given.1
 
-enum-told-2 : tie.Need-enum-told-2
-enum-told-2 c = search rules
+enum_told_2 : tie.Need-enum-told-2
+enum_told_2 c = search rules
 
 append-maybe-claimed-region-requires : tie.Need-append-maybe-claimed-region-requires
 append-maybe-claimed-region-requires c κs = search rules
 
-returns-2 : tie.Need-returns-2
-returns-2 c =
+returns_2 : tie.Need-returns-2
+returns_2 c =
     let at-enum-told = c.before.before in
     let at-structurize-select = at-enum-told.before.before in
     let at-set-case = at-structurize-select.before.before in
@@ -49,36 +49,36 @@ returns-2 c =
     let at-case-at = at-unclaimed-case.before.before in
     let at-if = at-case-at.before.before in
     let at-convergent-case = at-if.before in
-    into_one _ _ _ _ at-convergent-case.convergent-case.ensures at-if.if1.true
+    into_one _ _ _ _ at-convergent-case.convergent_case.ensures at-if.if1.true
     at-case-at.case_at.ensures
-    at-unclaimed-case.unclaimed-case.ensures
-    at-set-case.set-case.ensures at-structurize-select.structurize-select.ensures
-    at-enum-told.enum-told2.given.1 c.append-maybe-claimed-region.ensures
+    at-unclaimed-case.unclaimed_case.ensures
+    at-set-case.set-case.ensures at-structurize-select.structurize_select.ensures
+    at-enum-told.enum-told2.given.1 c.append_maybe_claimed_region.ensures
 
 structurize-select-requires-2 : tie.Need-structurize-select-requires-2
 structurize-select-requires-2 c κs = search rules
 
-enum-told-3 : tie.Need-enum-told-3
-enum-told-3 c = search rules
+enum_told_3 : tie.Need-enum-told-3
+enum_told_3 c = search rules
 
-returns-3 : tie.Need-returns-3
-returns-3 c = into-none _ _ _ _ c.before.before.before.before.before.convergent-case.ensures
+returns_3 : tie.Need-returns-3
+returns_3 c = into_none _ _ _ _ c.before.before.before.before.before.convergent_case.ensures
     c.before.before.before.before.if1.false c.before.before.structurize-select2.ensures
     c.enum-told3.given.1
 
-enum-told-4 : tie.Need-enum-told-4
-enum-told-4 c = search rules
+enum_told_4 : tie.Need-enum-told-4
+enum_told_4 c = search rules
 
 take-spare-requires : tie.Need-take-spare-requires
 take-spare-requires c κs = search rules
 
-returns-4 : tie.Need-returns-4
-returns-4 c =
+returns_4 : tie.Need-returns-4
+returns_4 c =
     let at-enum-told = c.before.before in
     let at-structurize-select = at-enum-told.before.before in
     let at-if = at-structurize-select.before.before in
     let at-convergent-case = at-if.before in
-    into-all _ _ _ _ at-convergent-case.convergent-case.ensures
+    into_all _ _ _ _ at-convergent-case.convergent_case.ensures
     at-if.if1.false at-structurize-select.structurize-select2.ensures
     at-enum-told.enum-told4.given.1 c.take-spare.ensures
 
@@ -93,12 +93,12 @@ structurize-select-into-spec =
     structurize-select-requires
     enum_told
     returns
-    enum-told-2
+    enum_told_2
     append-maybe-claimed-region-requires
-    returns-2
+    returns_2
     structurize-select-requires-2
-    enum-told-3
-    returns-3
-    enum-told-4
+    enum_told_3
+    returns_3
+    enum_told_4
     take-spare-requires
-    returns-4)
+    returns_4)

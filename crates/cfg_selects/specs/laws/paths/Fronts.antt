@@ -4,114 +4,114 @@ use Rattle.std.proofs.Common.{arith}
 use Rattle.meaning.specs.Lists.{pick}
 use Rattle.meaning.specs.Graph.{Graph}
 use Rattle.state_words.specs.declared.defined.Defined.{Defined}
-use Rattle.state_words.specs.Sections.{word, stored, stored-all, children, set-starts, set-lengths, cases, bundles}
+use Rattle.state_words.specs.Sections.{word, stored, stored_all, children, set_starts, set_lengths, cases, bundles}
 use Rattle.state_words.specs.Totals.{edges_word}
-use Rattle.state_regions.specs.RegionTables.{case-total}
-use Rattle.state_sets.specs.SetTables.{bundle-at, find-by}
+use Rattle.state_regions.specs.RegionTables.{case_total}
+use Rattle.state_sets.specs.SetTables.{bundle_at, find_by}
 use Rattle.state_shown.specs.Front.{SameKinds}
-use Rattle.state_shown.specs.laws.FrontKept.{kinds-same, kinds-stored, kinds-run, kinds-then, defines-kinds, adds-kinds}
-use Rattle.cfg_lookups.specs.Materialized.{Merges, the-scrutinee, new-output, no_output, Materializes, made-true, made-false, made-undef}
-use Rattle.cfg_lookups.specs.Materialized.{made-merge, full-part, PartsMade, no_part, part-more}
-use Rattle.cfg_merging.specs.Turns.{front-turned}
-use Rattle.cfg_merging.specs.Rewriting.{rewrite-case, rewrite-cases}
-use Rattle.cfg_merging.specs.laws.paths.RewritingLaws.{front-case}
-use Rattle.cfg_merging.specs.Targets.{longer, row-added, edges-added, summarize-bundle, summarize-set, summarize-case, deferred-targets}
-use Rattle.cfg_planning.specs.Planning.{planned, plan-at, plan-bundles}
-use Rattle.cfg_planning.specs.laws.paths.PlanningLaws.{front-plan}
+use Rattle.state_shown.specs.laws.FrontKept.{kinds_same, kinds_stored, kinds_run, kinds_then, defines_kinds, adds_kinds}
+use Rattle.cfg_lookups.specs.Materialized.{Merges, the_scrutinee, new_output, no_output, Materializes, made_true, made_false, made_undef}
+use Rattle.cfg_lookups.specs.Materialized.{made_merge, full_part, PartsMade, no_part, part_more}
+use Rattle.cfg_merging.specs.Turns.{front_turned}
+use Rattle.cfg_merging.specs.Rewriting.{rewrite_case, rewrite_cases}
+use Rattle.cfg_merging.specs.laws.paths.RewritingLaws.{front_case}
+use Rattle.cfg_merging.specs.Targets.{longer, row_added, edges_added, summarize_bundle, summarize_set, summarize_case, deferred_targets}
+use Rattle.cfg_planning.specs.Planning.{planned, plan_at, plan_bundles}
+use Rattle.cfg_planning.specs.laws.paths.PlanningLaws.{front_plan}
 use Rattle.state_words.specs.declared.defined.Made.{Made}
 use Rattle.cfg_select_nodes.specs.declared.define.Scrutinee.{Scrutinee}
-use Rattle.cfg_select_nodes.specs.laws.paths.TurnsLaws.{front-turns}
-use Rattle.cfg_select_nodes.specs.Cases.{GetsRegion, has-region, new-region, no-region}
-use Rattle.cfg_select_nodes.specs.Selects.{ScrutineeMade, given-value, made-value, CaseCells, cells_over, cell-more, SelectAdded}
-use Rattle.cfg_select_nodes.specs.Selects.{select-added}
-use Rattle.cfg_select_nodes.specs.Selects.{SelectDefined, regions-full, scrutinee-full, node-full, select-defined}
-use Rattle.cfg_emits.specs.laws.paths.EmitsLaws.{front-output}
-use Rattle.state_words.specs.Rows.{bundle-count, bundle-count-at, bundle-row-at, bundle-target, case-body-at, case-set-length}
-use Rattle.state_words.specs.Rows.{case-set-start, no-bundle-word}
-use Rattle.state_words.specs.Rows.{spare-slot}
+use Rattle.cfg_select_nodes.specs.laws.paths.TurnsLaws.{front_turns}
+use Rattle.cfg_select_nodes.specs.Cases.{GetsRegion, has_region, new_region, no_region}
+use Rattle.cfg_select_nodes.specs.Selects.{ScrutineeMade, given_value, made_value, CaseCells, cells_over, cell_more, SelectAdded}
+use Rattle.cfg_select_nodes.specs.Selects.{select_added}
+use Rattle.cfg_select_nodes.specs.Selects.{SelectDefined, regions_full, scrutinee_full, node_full, select_defined}
+use Rattle.cfg_emits.specs.laws.paths.EmitsLaws.{front_output}
+use Rattle.state_words.specs.Rows.{bundle_count, bundle_count_at, bundle_row_at, bundle_target, case_body_at, case_set_length}
+use Rattle.state_words.specs.Rows.{case_set_start, no_bundle_word}
+use Rattle.state_words.specs.Rows.{spare_slot}
 
 -- ---- Cases rewritten, their targets, and what is planned for them.
-pub front-cases : (g : Graph) (l : List ℕ) → SameKinds l (rewrite-cases g l)
-unfolding rewrite-cases
-front-cases g l = front-turned (λ m. m) (λ m j. rewrite-case g m j) (λ m j. front-case g m j) (case-total l) l 0
+pub front_cases : (g : Graph) (l : List ℕ) → SameKinds l (rewrite_cases g l)
+unfolding rewrite_cases
+front_cases g l = front_turned (λ m. m) (λ m j. rewrite_case g m j) (λ m j. front_case g m j) (case_total l) l 0
 
-front-summary : (l : List ℕ) (p : ℕ) → SameKinds l (summarize-bundle l p)
-unfolding summarize-bundle
-front-summary l p = go (eqb q no-bundle-word)
+front_summary : (l : List ℕ) (p : ℕ) → SameKinds l (summarize_bundle l p)
+unfolding summarize_bundle
+front_summary l p = go (eqb q no_bundle_word)
   where
     n : ℕ
-    n = word l set-lengths spare-slot
+    n = word l set_lengths spare_slot
 
     q : ℕ
-    q = find-by l (word l set-starts spare-slot) (bundle-target l p) n 0
+    q = find_by l (word l set_starts spare_slot) (bundle_target l p) n 0
 
-    go : (b : Bool) → SameKinds l (pick b (row-added l p (word l set-starts spare-slot) n) (edges-added l p q))
+    go : (b : Bool) → SameKinds l (pick b (row_added l p (word l set_starts spare_slot) n) (edges_added l p q))
     go true =
-        let xs = bundle-target l p ∷ bundle-count l p ∷ 1 ∷ [] in
-        let at = bundle-row-at (bundle-at (word l set-starts spare-slot) n) in
-        kinds-then (kinds-run l bundles (omega arith) at xs) (kinds-stored (stored-all l bundles at xs) set-lengths (omega arith) spare-slot
+        let xs = bundle_target l p ∷ bundle_count l p ∷ 1 ∷ [] in
+        let at = bundle_row_at (bundle_at (word l set_starts spare_slot) n) in
+        kinds_then (kinds_run l bundles (omega arith) at xs) (kinds_stored (stored_all l bundles at xs) set_lengths (omega arith) spare_slot
         (longer n 1))
-    go false = kinds-stored l bundles (omega arith) (bundle-count-at q) (edges_word (bundle-count l q + bundle-count l p))
+    go false = kinds_stored l bundles (omega arith) (bundle_count_at q) (edges_word (bundle_count l q + bundle_count l p))
 
-front-summaries : (l : List ℕ) (j : ℕ) → SameKinds l (summarize-case l j)
-unfolding summarize-set
-front-summaries l j =
-    front-turned (λ m. m) (λ m i. summarize-bundle m (bundle-at (case-set-start l j) i))
-    (λ m i. front-summary m (bundle-at (case-set-start l j) i)) (case-set-length l j) l 0
+front_summaries : (l : List ℕ) (j : ℕ) → SameKinds l (summarize_case l j)
+unfolding summarize_set
+front_summaries l j =
+    front_turned (λ m. m) (λ m i. summarize_bundle m (bundle_at (case_set_start l j) i))
+    (λ m i. front_summary m (bundle_at (case_set_start l j) i)) (case_set_length l j) l 0
 
-pub front-targets : (l : List ℕ) → SameKinds l (deferred-targets l)
-unfolding deferred-targets
-front-targets l =
-    let m = stored l set-lengths spare-slot 0 in
-    kinds-then (kinds-stored l set-lengths (omega arith) spare-slot 0)
-    (front-turned (λ m. m) summarize-case front-summaries (case-total m) m 0)
+pub front_targets : (l : List ℕ) → SameKinds l (deferred_targets l)
+unfolding deferred_targets
+front_targets l =
+    let m = stored l set_lengths spare_slot 0 in
+    kinds_then (kinds_stored l set_lengths (omega arith) spare_slot 0)
+    (front_turned (λ m. m) summarize_case front_summaries (case_total m) m 0)
 
-pub front-plans : (g : Graph) (l : List ℕ) → SameKinds l (plan-bundles g l).words
-unfolding plan-bundles
-front-plans g l =
-    let start = word l set-starts spare-slot in
-    front-turned (λ x. x.words) (plan-at start g) (front-plan start g) (word l set-lengths spare-slot) (planned l false) 0
+pub front_plans : (g : Graph) (l : List ℕ) → SameKinds l (plan_bundles g l).words
+unfolding plan_bundles
+front_plans g l =
+    let start = word l set_starts spare_slot in
+    front_turned (λ x. x.words) (plan_at start g) (front_plan start g) (word l set_lengths spare_slot) (planned l false) 0
 
 -- ---- The select.
-front-region : {j : ℕ} {l l' : List ℕ} {a : Made} → GetsRegion j l l' a → SameKinds l l'
-front-region {l} (has-region k e) = rw e (kinds-same l)
-front-region {j} (new-region {r} {l₁} d x e) = rw e (kinds-then (defines-kinds x) (kinds-stored l₁ cases (omega arith) (case-body-at j) r))
-front-region (no-region d x) = defines-kinds x
+front_region : {j : ℕ} {l l' : List ℕ} {a : Made} → GetsRegion j l l' a → SameKinds l l'
+front_region {l} (has_region k e) = rw e (kinds_same l)
+front_region {j} (new_region {r} {l₁} d x e) = rw e (kinds_then (defines_kinds x) (kinds_stored l₁ cases (omega arith) (case_body_at j) r))
+front_region (no_region d x) = defines_kinds x
 
-front-merges : {l l' vs : List ℕ} {c : ℕ} {a : Defined} → Merges l c vs l' a → SameKinds l l'
-front-merges {l} (the-scrutinee e p q) = rw q (kinds-same l)
-front-merges (new-output e x p) = front-output x
-front-merges (no_output e x) = front-output x
+front_merges : {l l' vs : List ℕ} {c : ℕ} {a : Defined} → Merges l c vs l' a → SameKinds l l'
+front_merges {l} (the_scrutinee e p q) = rw q (kinds_same l)
+front_merges (new_output e x p) = front_output x
+front_merges (no_output e x) = front_output x
 
 mutual
-  pub front-made : {l l' : List ℕ} {c : ℕ} {a : Defined} → Materializes l c l' a → SameKinds l l'
-  front-made (made-true {l} e p) = rw p (kinds-same l)
-  front-made (made-false {l} e p) = rw p (kinds-same l)
-  front-made (made-undef {l} d f h x p) = rw p (kinds-same l)
-  front-made (made-merge h ps m) = kinds-then (front-parts ps) (front-merges m)
-  front-made (full-part h i ps e m) = kinds-then (front-parts ps) (front-made m)
+  pub front_made : {l l' : List ℕ} {c : ℕ} {a : Defined} → Materializes l c l' a → SameKinds l l'
+  front_made (made_true {l} e p) = rw p (kinds_same l)
+  front_made (made_false {l} e p) = rw p (kinds_same l)
+  front_made (made_undef {l} d f h x p) = rw p (kinds_same l)
+  front_made (made_merge h ps m) = kinds_then (front_parts ps) (front_merges m)
+  front_made (full_part h i ps e m) = kinds_then (front_parts ps) (front_made m)
 
-  front-parts : {l l' vs : List ℕ} {c j : ℕ} → PartsMade l c j l' vs → SameKinds l l'
-  front-parts (no_part {l} e p q) = rw p (kinds-same l)
-  front-parts (part-more ps h e m i q) = kinds-then (front-parts ps) (front-made m)
+  front_parts : {l l' vs : List ℕ} {c j : ℕ} → PartsMade l c j l' vs → SameKinds l l'
+  front_parts (no_part {l} e p q) = rw p (kinds_same l)
+  front_parts (part_more ps h e m i q) = kinds_then (front_parts ps) (front_made m)
 
-front-scrutinee : {l l' : List ℕ} {x : Scrutinee} {a : Defined} → ScrutineeMade l x l' a → SameKinds l l'
-front-scrutinee {l} (given-value e) = rw e (kinds-same l)
-front-scrutinee (made-value m) = front-made m
+front_scrutinee : {l l' : List ℕ} {x : Scrutinee} {a : Defined} → ScrutineeMade l x l' a → SameKinds l l'
+front_scrutinee {l} (given_value e) = rw e (kinds_same l)
+front_scrutinee (made_value m) = front_made m
 
-front-cells : {n h h' : ℕ} {l l' : List ℕ} → CaseCells n h l l' h' → SameKinds l l'
-front-cells {l} (cells_over n e p) = rw e (kinds-same l)
-front-cells (cell-more n x y) = kinds-then (adds-kinds x) (front-cells y)
+front_cells : {n h h' : ℕ} {l l' : List ℕ} → CaseCells n h l l' h' → SameKinds l l'
+front_cells {l} (cells_over n e p) = rw e (kinds_same l)
+front_cells (cell_more n x y) = kinds_then (adds_kinds x) (front_cells y)
 
-front-added : {r node shape v h : ℕ} {l l' : List ℕ} → SelectAdded r node shape v l l' h → SameKinds l l'
-front-added {r} {h} (select-added {l₂} x b y e) =
-    rw e (kinds-then (front-cells x) (kinds-then (adds-kinds y) (kinds-stored l₂ children (omega arith) r h)))
+front_added : {r node shape v h : ℕ} {l l' : List ℕ} → SelectAdded r node shape v l l' h → SameKinds l l'
+front_added {r} {h} (select_added {l₂} x b y e) =
+    rw e (kinds_then (front_cells x) (kinds_then (adds_kinds y) (kinds_stored l₂ children (omega arith) r h)))
 
-pub front-select : {r shape : ℕ} {x : Scrutinee} {l l' : List ℕ} {a : Defined} → SelectDefined r shape x l l' a → SameKinds l l'
-front-select (regions-full t) = front-turns GetsRegion (λ j m m' b y. front-region y) t
-front-select (scrutinee-full t v) = kinds-then (front-turns GetsRegion (λ j m m' b y. front-region y) t) (front-scrutinee v)
-front-select (node-full t v n) =
-    kinds-then (front-turns GetsRegion (λ j m m' b y. front-region y) t) (kinds-then (front-scrutinee v) (defines-kinds n))
-front-select (select-defined t v n s) =
-    kinds-then (front-turns GetsRegion (λ j m m' b y. front-region y) t)
-    (kinds-then (front-scrutinee v) (kinds-then (defines-kinds n) (front-added s)))
+pub front_select : {r shape : ℕ} {x : Scrutinee} {l l' : List ℕ} {a : Defined} → SelectDefined r shape x l l' a → SameKinds l l'
+front_select (regions_full t) = front_turns GetsRegion (λ j m m' b y. front_region y) t
+front_select (scrutinee_full t v) = kinds_then (front_turns GetsRegion (λ j m m' b y. front_region y) t) (front_scrutinee v)
+front_select (node_full t v n) =
+    kinds_then (front_turns GetsRegion (λ j m m' b y. front_region y) t) (kinds_then (front_scrutinee v) (defines_kinds n))
+front_select (select_defined t v n s) =
+    kinds_then (front_turns GetsRegion (λ j m m' b y. front_region y) t)
+    (kinds_then (front_scrutinee v) (kinds_then (defines_kinds n) (front_added s)))

@@ -1,6 +1,6 @@
 use mathlib.Core.Path.{sym}
 use lib.Seq.{length-take-le}
-use Rattle.damage.proofs.Laws.{of-refusal, of-record}
+use Rattle.damage.proofs.Laws.{of_refusal, of_record}
 use borrow.Author.Rules.{rules}
 use Rattle.damage.proofs.answers.answer_of.Statement.{statement}
 use Rattle.damage.proofs.answers.answer_of.Tie as tie
@@ -24,7 +24,7 @@ returns : tie.Need-returns
 returns c =
     let at-verdict = c.before.before.before in
     let at-accept = at-verdict.before.before in
-    of-refusal _ _ _ (rw at-verdict.verdict.given.1 at at-accept.accept.ensures) c.before.low.ensures c.low2.ensures
+    of_refusal _ _ _ (rw at-verdict.verdict.given.1 at at-accept.accept.ensures) c.before.low.ensures c.low2.ensures
 
 enum_told : tie.Need-enum-told
 enum_told c = search rules
@@ -35,12 +35,12 @@ shown-sum-requires c κs = search rules
 same_length : tie.Need-same-length
 same_length c = search rules
 
-returns-2 : tie.Need-returns-2
-returns-2 c =
+returns_2 : tie.Need-returns-2
+returns_2 c =
     let at-shown-sum = c.before.before in
     let at-enum-told = at-shown-sum.before.before.before in
     let at-accept = at-enum-told.before.before in
-    of-record _ _ _ (rw at-enum-told.enum_told.given.1 at at-accept.accept.ensures) at-shown-sum.shown-sum.ensures
+    of_record _ _ _ (rw at-enum-told.enum_told.given.1 at at-accept.accept.ensures) at-shown-sum.shown-sum.ensures
 
 pub answer-of-spec : {M : Type 1} → statement M
 answer-of-spec =
@@ -55,4 +55,4 @@ answer-of-spec =
     enum_told
     shown-sum-requires
     same_length
-    returns-2)
+    returns_2)

@@ -12,8 +12,8 @@ mul-if2 c = search rules
 shared-slice-read-if2 : tie.Need-shared-slice-read-if2
 shared-slice-read-if2 c = search rules
 
-returns-2 : tie.Need-returns-2
-returns-2 c = rw (lt-ltb _ _ c.before.before.before.if1.false, ne_eqb _ _ c.if2.true)
+returns_2 : tie.Need-returns-2
+returns_2 c = rw (lt-ltb _ _ c.before.before.before.if1.false, ne_eqb _ _ c.if2.true)
 
 mul-result : tie.Need-overflow-mul-result
 mul-result c = search rules
@@ -24,8 +24,8 @@ add-result c = search rules
 shared-slice-read-result : tie.Need-shared-slice-read-result
 shared-slice-read-result c = search rules
 
-returns-3 : tie.Need-returns-3
-returns-3 c = rw (lt-ltb _ _ c.before.before.before.before.before.if1.false, eq-eqb _ _ c.before.before.if2.false)
+returns_3 : tie.Need-returns-3
+returns_3 c = rw (lt-ltb _ _ c.before.before.before.before.before.if1.false, eq-eqb _ _ c.before.before.if2.false)
 
 pub is-listed-spec : {M : Type 1} → statement M
 is-listed-spec =
@@ -34,8 +34,8 @@ is-listed-spec =
     returns
     mul-if2
     shared-slice-read-if2
-    returns-2
+    returns_2
     mul-result
     add-result
     shared-slice-read-result
-    returns-3)
+    returns_3)

@@ -1,6 +1,6 @@
 use native.Mathlib.Omega.{arith}
-use Rattle.text_show.specs.laws.Showing.{never-full, shown-front}
-use Rattle.damage.proofs.Laws.{summed-shown}
+use Rattle.text_show.specs.laws.Showing.{never_full, shown_front}
+use Rattle.damage.proofs.Laws.{summed_shown}
 use borrow.Author.Rules.{rules}
 use Rattle.damage.proofs.answers.shown_sum.Statement.{statement}
 use Rattle.damage.proofs.answers.shown_sum.Tie as tie
@@ -21,7 +21,7 @@ returns : tie.Need-returns
 returns c =
     let at-show = c.before.before.before.before in
     let start = at-show.before.before.before.before.before in
-    absurd (never-full at-show.show.ensures (let room = start.requires in omega arith) c.enum_told.given.1)
+    absurd (never_full at-show.show.ensures (let room = start.requires in omega arith) c.enum_told.given.1)
 
 sub-sum-of : tie.Need-overflow-sub-sum-of
 sub-sum-of c = search rules
@@ -34,7 +34,7 @@ part-sum-of-end c =
     let at-written = c.before.before in
     let at-show = at-written.before.before.before.before in
     let start = at-show.before.before.before.before.before in
-    omega (arith, (shown-front at-show.show.ensures at-written.written.given.1).within)
+    omega (arith, (shown_front at-show.show.ensures at-written.written.given.1).within)
 
 sum-of-requires : tie.Need-sum-of-requires
 sum-of-requires c κs = search rules
@@ -42,13 +42,13 @@ sum-of-requires c κs = search rules
 same-length-2 : tie.Need-same-length-2
 same-length-2 c = search rules
 
-returns-2 : tie.Need-returns-2
-returns-2 c =
+returns_2 : tie.Need-returns-2
+returns_2 c =
     let at-written = c.before.before.before.before in
     let at-show = at-written.before.before.before.before in
     let start = at-show.before.before.before.before.before in
-    let front = shown-front at-show.show.ensures at-written.written.given.1 in
-    summed-shown front c.sum_of.ensures
+    let front = shown_front at-show.show.ensures at-written.written.given.1 in
+    summed_shown front c.sum_of.ensures
 
 pub shown-sum-spec : {M : Type 1} → statement M
 shown-sum-spec =
@@ -64,4 +64,4 @@ shown-sum-spec =
     part-sum-of-end
     sum-of-requires
     same-length-2
-    returns-2)
+    returns_2)

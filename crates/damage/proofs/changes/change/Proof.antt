@@ -13,8 +13,8 @@ mend-requires c κs = search rules
 returns : tie.Need-returns
 returns c = rw c.before.if1.true (c.mend.ensures ∙ ap mended c.before.before.flip.ensures)
 
-returns-2 : tie.Need-returns-2
-returns-2 c = rw c.if1.false c.before.flip.ensures
+returns_2 : tie.Need-returns-2
+returns_2 c = rw c.if1.false c.before.flip.ensures
 
 pub change-spec : {M : Type 1} → statement M
-change-spec = tie.close (tie.spec flip-requires mend-requires returns returns-2)
+change-spec = tie.close (tie.spec flip-requires mend-requires returns returns_2)

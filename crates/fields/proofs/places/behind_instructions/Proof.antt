@@ -6,16 +6,16 @@ use Prim.Native.Nat.{◌≤◌, ◌-◌}
 use native.Mathlib.Omega.{arith}
 use native.Mathlib.Nat.{sub-zero}
 use Rattle.fields.specs.ItemsAndPlaces as words
-use Rattle.fields.specs.laws.Turns.{instr-turn, instr-stop}
+use Rattle.fields.specs.laws.Turns.{instr_turn, instr_stop}
 
 abbrev invariant-loop : tie.invariant-loop
-invariant-loop w first i p₀ n₀ p n = (n ≤ i) × (p ≤ 65535) × (words.behind-instructions w (i - n) p ≡ words.behind-instructions w i first)
+invariant-loop w first i p₀ n₀ p n = (n ≤ i) × (p ≤ 65535) × (words.behind_instructions w (i - n) p ≡ words.behind_instructions w i first)
 
 abbrev decreases-loop : tie.decreases-loop
 decreases-loop w first i p₀ n₀ p n = i - n
 
-loop-holds : tie.Need-loop-init invariant-loop decreases-loop
-loop-holds c = (omega arith, search rules, rw sub-zero)
+loop_holds : tie.Need-loop-init invariant-loop decreases-loop
+loop_holds c = (omega arith, search rules, rw sub-zero)
 
 cast-place : tie.Need-overflow-cast-place invariant-loop decreases-loop
 cast-place c = search rules
@@ -32,19 +32,19 @@ behind-values-requires c κs = search rules
 add-n : tie.Need-overflow-add-n invariant-loop decreases-loop
 add-n c = search rules
 
-loop-less : tie.Need-loop-smaller invariant-loop decreases-loop
-loop-less c = search rules
+loop_less : tie.Need-loop-smaller invariant-loop decreases-loop
+loop_less c = search rules
 
-loop-again : tie.Need-loop-preserved invariant-loop decreases-loop
-loop-again c = (
+loop_again : tie.Need-loop-preserved invariant-loop decreases-loop
+loop_again c = (
   omega arith,
   search rules,
-  rw (c.behind-values.ensures, c.before.place.ensures)
-      (instr-turn _ _ _ _ _ c.before.before.loop-test.true c.before.before.before.loop.invariant.2),
+  rw (c.behind_values.ensures, c.before.place.ensures)
+      (instr_turn _ _ _ _ _ c.before.before.loop-test.true c.before.before.before.loop.invariant.2),
 )
 
 returns : tie.Need-returns invariant-loop decreases-loop
-returns c = instr-stop _ _ _ _ _ c.loop-test.false c.before.loop.invariant.2
+returns c = instr_stop _ _ _ _ _ c.loop-test.false c.before.loop.invariant.2
 
 pub behind-instructions-spec : {M : Type 1} → statement M
 behind-instructions-spec =
@@ -52,12 +52,12 @@ behind-instructions-spec =
     (tie.spec
     invariant-loop
     decreases-loop
-    loop-holds
+    loop_holds
     cast-place
     add-place
     place-requires
     behind-values-requires
     add-n
-    loop-less
-    loop-again
+    loop_less
+    loop_again
     returns)

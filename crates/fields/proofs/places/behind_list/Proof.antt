@@ -9,16 +9,16 @@ stood-before-requires : tie.Need-stood-before-requires
 stood-before-requires c κs = search rules
 
 returns : tie.Need-returns
-unfolding words.behind-list
+unfolding words.behind_list
 returns c = picked _ _ (sym c.before.stood-before.ensures ∙ c.if1.true)
 
 behind-values-requires : tie.Need-behind-values-requires
 behind-values-requires c κs = search rules
 
-returns-2 : tie.Need-returns-2
-unfolding words.behind-list
-returns-2 c = c.behind-values.ensures ∙ passed_over _ _ (sym c.before.before.stood-before.ensures ∙ c.before.if1.false)
+returns_2 : tie.Need-returns-2
+unfolding words.behind_list
+returns_2 c = c.behind_values.ensures ∙ passed_over _ _ (sym c.before.before.stood-before.ensures ∙ c.before.if1.false)
 
 pub behind-list-spec : {M : Type 1} → statement M
 behind-list-spec =
-    tie.close (tie.spec stood-before-requires returns behind-values-requires returns-2)
+    tie.close (tie.spec stood-before-requires returns behind-values-requires returns_2)

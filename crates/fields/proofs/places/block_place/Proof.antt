@@ -3,7 +3,7 @@ use Rattle.fields.proofs.places.block_place.Statement.{statement}
 use Rattle.fields.proofs.places.block_place.Tie as tie
 use Rattle.fields.specs.ItemsAndPlaces as words
 use mathlib.Core.Path.{◌∙◌}
-use Rattle.meaning.specs.facts.Tests.{picked, passed_over, is_below, not-below}
+use Rattle.meaning.specs.facts.Tests.{picked, passed_over, is_below, not_below}
 
 blocks-place-requires : tie.Need-blocks-place-requires
 blocks-place-requires c κs = search rules
@@ -21,14 +21,14 @@ indexed-requires : tie.Need-indexed-requires
 indexed-requires c κs = search rules
 
 returns : tie.Need-returns
-unfolding words.block-place
+unfolding words.block_place
 returns c =
-    rw (← c.before.before.before.blocks-place.ensures)
+    rw (← c.before.before.before.blocks_place.ensures)
     (c.indexed.ensures ∙ picked _ _ (is_below c.before.if1.true c.before.before.word_at.ensures))
 
-returns-2 : tie.Need-returns-2
-unfolding words.block-place
-returns-2 c = rw (← c.before.before.blocks-place.ensures) (passed_over _ _ (not-below c.if1.false c.before.word_at.ensures))
+returns_2 : tie.Need-returns-2
+unfolding words.block_place
+returns_2 c = rw (← c.before.before.blocks_place.ensures) (passed_over _ _ (not_below c.if1.false c.before.word_at.ensures))
 
 pub block-place-spec : {M : Type 1} → statement M
 block-place-spec =
@@ -40,4 +40,4 @@ block-place-spec =
     add-indexed
     indexed-requires
     returns
-    returns-2)
+    returns_2)

@@ -11,8 +11,8 @@ behind-words-requires : tie.Need-behind-words-requires
 behind-words-requires c κs = search rules
 
 returns : tie.Need-returns
-unfolding words.blocks-place
-returns c = c.behind-words.ensures ∙ ap (words.behind-words _) c.before.indexed.ensures
+unfolding words.blocks_place
+returns c = c.behind_words.ensures ∙ ap (words.behind_words _) c.before.indexed.ensures
 
 pub blocks-place-spec : {M : Type 1} → statement M
 blocks-place-spec = tie.close (tie.spec indexed-requires behind-words-requires returns)

@@ -3,7 +3,7 @@ use Rattle.fields.proofs.places.indexed.Statement.{statement}
 use Rattle.fields.proofs.places.indexed.Tie as tie
 use mathlib.Core.Path.{◌∙◌}
 use Rattle.fields.specs.ItemsAndPlaces as words
-use Rattle.meaning.specs.facts.Tests.{picked, passed_over, is_below, not-below}
+use Rattle.meaning.specs.facts.Tests.{picked, passed_over, is_below, not_below}
 
 word-at-requires : tie.Need-word-at-requires
 word-at-requires c κs = search rules
@@ -24,9 +24,9 @@ returns : tie.Need-returns
 unfolding words.indexed
 returns c = c.word-at2.ensures ∙ picked _ _ (is_below c.before.if1.true c.before.before.word_at.ensures)
 
-returns-2 : tie.Need-returns-2
+returns_2 : tie.Need-returns-2
 unfolding words.indexed
-returns-2 c = passed_over _ _ (not-below c.if1.false c.before.word_at.ensures)
+returns_2 c = passed_over _ _ (not_below c.if1.false c.before.word_at.ensures)
 
 pub indexed-spec : {M : Type 1} → statement M
 indexed-spec =
@@ -38,4 +38,4 @@ indexed-spec =
     add-word-at-2
     word-at-requires-2
     returns
-    returns-2)
+    returns_2)

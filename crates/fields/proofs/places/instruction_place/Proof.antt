@@ -3,7 +3,7 @@ use Rattle.fields.proofs.places.instruction_place.Statement.{statement}
 use Rattle.fields.proofs.places.instruction_place.Tie as tie
 use mathlib.Core.Path.{◌∙◌, ap}
 use Rattle.fields.specs.ItemsAndPlaces as words
-use Rattle.meaning.specs.facts.Tests.{picked, passed_over, is_below, not-below}
+use Rattle.meaning.specs.facts.Tests.{picked, passed_over, is_below, not_below}
 
 block-place-requires : tie.Need-block-place-requires
 block-place-requires c κs = search rules
@@ -27,16 +27,16 @@ behind-instructions-requires : tie.Need-behind-instructions-requires
 behind-instructions-requires c κs = search rules
 
 returns : tie.Need-returns
-unfolding words.instruction-place
+unfolding words.instruction_place
 returns c =
     let at-block-place = c.before.before.before.before in
-    rw (← at-block-place.block-place.ensures) (c.behind-instructions.ensures
-    ∙ ap (words.behind-instructions _ _) c.before.place.ensures
+    rw (← at-block-place.block_place.ensures) (c.behind_instructions.ensures
+    ∙ ap (words.behind_instructions _ _) c.before.place.ensures
     ∙ picked _ _ (is_below c.before.before.if1.true c.before.before.before.word_at.ensures))
 
-returns-2 : tie.Need-returns-2
-unfolding words.instruction-place
-returns-2 c = rw (← c.before.before.block-place.ensures) (passed_over _ _ (not-below c.if1.false c.before.word_at.ensures))
+returns_2 : tie.Need-returns-2
+unfolding words.instruction_place
+returns_2 c = rw (← c.before.before.block_place.ensures) (passed_over _ _ (not_below c.if1.false c.before.word_at.ensures))
 
 pub instruction-place-spec : {M : Type 1} → statement M
 instruction-place-spec =
@@ -50,4 +50,4 @@ instruction-place-spec =
     place-requires
     behind-instructions-requires
     returns
-    returns-2)
+    returns_2)

@@ -11,8 +11,8 @@ behind-values-requires : tie.Need-behind-values-requires
 behind-values-requires c κs = search rules
 
 returns : tie.Need-returns
-unfolding words.targets-place
-returns c = c.behind-values.ensures ∙ ap (words.behind-values _) c.before.values-place.ensures
+unfolding words.targets_place
+returns c = c.behind_values.ensures ∙ ap (words.behind_values _) c.before.values_place.ensures
 
 pub targets-place-spec : {M : Type 1} → statement M
 targets-place-spec = tie.close (tie.spec values-place-requires behind-values-requires returns)

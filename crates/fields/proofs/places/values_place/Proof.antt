@@ -3,7 +3,7 @@ use Rattle.fields.proofs.places.values_place.Statement.{statement}
 use Rattle.fields.proofs.places.values_place.Tie as tie
 use mathlib.Core.Path.{◌∙◌}
 use Rattle.fields.specs.ItemsAndPlaces as words
-use Rattle.meaning.specs.facts.Tests.{picked, passed_over, is-equal, not_equal}
+use Rattle.meaning.specs.facts.Tests.{picked, passed_over, is_equal, not_equal}
 
 indexed-requires : tie.Need-indexed-requires
 indexed-requires c κs = search rules
@@ -24,10 +24,10 @@ place-requires : tie.Need-place-requires
 place-requires c κs = search rules
 
 returns : tie.Need-returns
-unfolding words.values-place
+unfolding words.values_place
 returns c =
     rw (← c.before.before.before.indexed.ensures)
-    (c.place.ensures ∙ picked _ _ (is-equal c.before.if1.true c.before.before.word_at.ensures))
+    (c.place.ensures ∙ picked _ _ (is_equal c.before.if1.true c.before.before.word_at.ensures))
 
 add-place-2 : tie.Need-overflow-add-place-2
 add-place-2 c = search rules
@@ -35,9 +35,9 @@ add-place-2 c = search rules
 place-requires-2 : tie.Need-place-requires-2
 place-requires-2 c κs = search rules
 
-returns-2 : tie.Need-returns-2
-unfolding words.values-place
-returns-2 c =
+returns_2 : tie.Need-returns-2
+unfolding words.values_place
+returns_2 c =
     rw (← c.before.before.before.indexed.ensures)
     (c.place2.ensures ∙ passed_over _ _ (not_equal c.before.if1.false c.before.before.word_at.ensures))
 
@@ -54,4 +54,4 @@ values-place-spec =
     returns
     add-place-2
     place-requires-2
-    returns-2)
+    returns_2)

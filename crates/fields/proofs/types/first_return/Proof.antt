@@ -7,20 +7,20 @@ use native.Mathlib.Omega.{arith}
 use lib.ListN.{drop}
 use Rattle.format.specs.References as format
 use Rattle.record.specs.Stands.{OfRecord}
-use Rattle.fields.specs.laws.Returns.{return-here, return-later, no_return}
+use Rattle.fields.specs.laws.Returns.{return_here, return_later, no_return}
 
 abbrev invariant-loop : tie.invariant-loop
 invariant-loop w n q₀ q =
-    (q ≤ n) × (q ≤ 65535) × OfRecord w (λ g. q + format.first-return (drop q g.regions) ≡ format.first-return g.regions)
+    (q ≤ n) × (q ≤ 65535) × OfRecord w (λ g. q + format.first_return (drop q g.regions) ≡ format.first_return g.regions)
 
 abbrev decreases-loop : tie.decreases-loop
 decreases-loop w n q₀ q = n - q
 
-region-count-requires : tie.Need-region-count-requires invariant-loop decreases-loop
-region-count-requires c κs = search rules
+region_count_requires : tie.Need-region-count-requires invariant-loop decreases-loop
+region_count_requires c κs = search rules
 
-loop-holds : tie.Need-loop-init invariant-loop decreases-loop
-loop-holds c = (omega arith, omega arith, λ g s. omega arith)
+loop_holds : tie.Need-loop-init invariant-loop decreases-loop
+loop_holds c = (omega arith, omega arith, λ g s. omega arith)
 
 is-return-requires : tie.Need-is-return-requires invariant-loop decreases-loop
 is-return-requires c κs = search rules
@@ -28,26 +28,26 @@ is-return-requires c κs = search rules
 returns : tie.Need-returns invariant-loop decreases-loop
 returns c g s =
     let at-region-count = c.before.before.before.before in
-    return-here g.regions (at-region-count.region-count.ensures g s) _ c.before.before.loop-test.true
-    (sym (c.before.is-return.ensures g s) ∙ c.if1.true) (c.before.before.before.loop.invariant.2 g s)
+    return_here g.regions (at-region-count.region_count.ensures g s) _ c.before.before.loop-test.true
+    (sym (c.before.is_return.ensures g s) ∙ c.if1.true) (c.before.before.before.loop.invariant.2 g s)
 
 add-q : tie.Need-overflow-add-q invariant-loop decreases-loop
 add-q c = search rules
 
-loop-less : tie.Need-loop-smaller invariant-loop decreases-loop
-loop-less c = search rules
+loop_less : tie.Need-loop-smaller invariant-loop decreases-loop
+loop_less c = search rules
 
-loop-again : tie.Need-loop-preserved invariant-loop decreases-loop
-loop-again c = (
+loop_again : tie.Need-loop-preserved invariant-loop decreases-loop
+loop_again c = (
   omega arith,
   omega arith,
-  λ g s. return-later g.regions (c.before.before.before.before.region-count.ensures g s) _
-      c.before.before.loop-test.true (sym (c.before.is-return.ensures g s) ∙ c.if1.false)
+  λ g s. return_later g.regions (c.before.before.before.before.region_count.ensures g s) _
+      c.before.before.loop-test.true (sym (c.before.is_return.ensures g s) ∙ c.if1.false)
       (c.before.before.before.loop.invariant.2 g s),
 )
 
-returns-2 : tie.Need-returns-2 invariant-loop decreases-loop
-returns-2 c g s = no_return g.regions (c.before.before.region-count.ensures g s) _ c.loop-test.false (c.before.loop.invariant.2 g s)
+returns_2 : tie.Need-returns-2 invariant-loop decreases-loop
+returns_2 c g s = no_return g.regions (c.before.before.region_count.ensures g s) _ c.loop-test.false (c.before.loop.invariant.2 g s)
 
 pub first-return-spec : {M : Type 1} → statement M
 first-return-spec =
@@ -55,11 +55,11 @@ first-return-spec =
     (tie.spec
     invariant-loop
     decreases-loop
-    region-count-requires
-    loop-holds
+    region_count_requires
+    loop_holds
     is-return-requires
     returns
     add-q
-    loop-less
-    loop-again
-    returns-2)
+    loop_less
+    loop_again
+    returns_2)

@@ -12,7 +12,7 @@ type-in-requires : tie.Need-type-in-requires
 type-in-requires c κs = search rules
 
 returns : tie.Need-returns
-returns c g s = rw (c.before.value.ensures g s, c.before.before.instruction-count.ensures g s) at (c.type-in.ensures g s)
+returns c g s = rw (c.before.value.ensures g s, c.before.before.instruction-count.ensures g s) at (c.type_in.ensures g s)
 
 pub return-type-spec : {M : Type 1} → statement M
 return-type-spec =

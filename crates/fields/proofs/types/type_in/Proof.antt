@@ -2,7 +2,7 @@ use borrow.Author.Rules.{rules}
 use Rattle.fields.proofs.types.type_in.Statement.{statement}
 use Rattle.fields.proofs.types.type_in.Tie as tie
 use mathlib.Core.Path.{◌∙◌}
-use Rattle.meaning.specs.facts.Tests.{picked, passed_over, both_true, first-false, second-false}
+use Rattle.meaning.specs.facts.Tests.{picked, passed_over, both_true, first_false, second_false}
 use borrow.Author.Tests.{eq-eqb, ne_eqb, lt-ltb, le-ltb}
 
 enum-known-v : tie.Need-enum-known-v
@@ -29,10 +29,10 @@ cast-if3 c = search rules
 output-type-requires : tie.Need-output-type-requires
 output-type-requires c κs = search rules
 
-returns-2 : tie.Need-returns-2
-returns-2 c g s =
+returns_2 : tie.Need-returns-2
+returns_2 c g s =
     let at-v3 = c.before.before.before.before in
-    rw at-v3.v3.given.1 (c.output-type.ensures g s
+    rw at-v3.v3.given.1 (c.output_type.ensures g s
     ∙ picked _ _ (both_true (eq-eqb _ _ c.before.before.if2.true) (lt-ltb _ _ c.before.if3.true)))
 
 enum_told : tie.Need-enum-told
@@ -41,22 +41,22 @@ enum_told c = search rules
 enum-known-v-4 : tie.Need-enum-known-v-4
 enum-known-v-4 c = search rules
 
-enum-told-2 : tie.Need-enum-told-2
-enum-told-2 c = search rules
+enum_told_2 : tie.Need-enum-told-2
+enum_told_2 c = search rules
 
-returns-3 : tie.Need-returns-3
-returns-3 c g s = rw c.before.before.v.given.1 (c.constant-type.ensures g s)
+returns_3 : tie.Need-returns-3
+returns_3 c g s = rw c.before.before.v.given.1 (c.constant-type.ensures g s)
 
-returns-4 : tie.Need-returns-4
-returns-4 c g s = rw c.before.before.v2.given.1 (passed_over _ _ (ne_eqb _ _ c.if1.false))
+returns_4 : tie.Need-returns-4
+returns_4 c g s = rw c.before.before.v2.given.1 (passed_over _ _ (ne_eqb _ _ c.if1.false))
 
-returns-5 : tie.Need-returns-5
-returns-5 c g s =
+returns_5 : tie.Need-returns-5
+returns_5 c g s =
     rw c.before.before.before.v3.given.1 (passed_over _ _
-    (second-false (eq-eqb _ _ c.before.if2.true) (le-ltb _ _ c.if3.false)))
+    (second_false (eq-eqb _ _ c.before.if2.true) (le-ltb _ _ c.if3.false)))
 
 returns-6 : tie.Need-returns-6
-returns-6 c g s = rw c.before.before.v3.given.1 (passed_over _ _ (first-false _ (ne_eqb _ _ c.if2.false)))
+returns-6 c g s = rw c.before.before.v3.given.1 (passed_over _ _ (first_false _ (ne_eqb _ _ c.if2.false)))
 
 returns-7 : tie.Need-returns-7
 returns-7 c g s = rw c.enum_told.given.1
@@ -79,13 +79,13 @@ type-in-spec =
     enum-known-v-3
     cast-if3
     output-type-requires
-    returns-2
+    returns_2
     enum_told
     enum-known-v-4
-    enum-told-2
-    returns-3
-    returns-4
-    returns-5
+    enum_told_2
+    returns_3
+    returns_4
+    returns_5
     returns-6
     returns-7
     returns-8

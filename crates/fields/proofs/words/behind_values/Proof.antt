@@ -3,7 +3,7 @@ use Rattle.fields.proofs.words.behind_values.Statement.{statement}
 use Rattle.fields.proofs.words.behind_values.Tie as tie
 use mathlib.Core.Path.{◌∙◌, ap}
 use Prim.Native.Nat.{◌+◌, ◌*◌}
-use Rattle.fields.specs.ItemsAndPlaces.{placed, behind-values}
+use Rattle.fields.specs.ItemsAndPlaces.{placed, behind_values}
 
 add-place : tie.Need-overflow-add-place
 add-place c = search rules
@@ -24,7 +24,7 @@ place-requires : tie.Need-place-requires
 place-requires c κs = search rules
 
 returns : tie.Need-returns
-unfolding behind-values
+unfolding behind_values
 returns c = c.place.ensures ∙ ap (λ n. placed (c.before.before.args.p + 1 + 3 * n)) c.before.word_at.ensures
 
 pub behind-values-spec : {M : Type 1} → statement M

@@ -3,7 +3,7 @@ use Rattle.fields.proofs.words.behind_words.Statement.{statement}
 use Rattle.fields.proofs.words.behind_words.Tie as tie
 use mathlib.Core.Path.{◌∙◌, ap}
 use Prim.Native.Nat.{◌+◌}
-use Rattle.fields.specs.ItemsAndPlaces.{placed, behind-words}
+use Rattle.fields.specs.ItemsAndPlaces.{placed, behind_words}
 
 add-place : tie.Need-overflow-add-place
 add-place c = search rules
@@ -21,7 +21,7 @@ place-requires : tie.Need-place-requires
 place-requires c κs = search rules
 
 returns : tie.Need-returns
-unfolding behind-words
+unfolding behind_words
 returns c = c.place.ensures ∙ ap (λ n. placed (c.before.before.args.p + 1 + n)) c.before.word_at.ensures
 
 pub behind-words-spec : {M : Type 1} → statement M

@@ -15,9 +15,9 @@ returns : tie.Need-returns
 unfolding placed
 returns c = picked _ _ (lt-ltb _ _ c.if1.true)
 
-returns-2 : tie.Need-returns-2
+returns_2 : tie.Need-returns-2
 unfolding placed
-returns-2 c = passed_over _ _ (le-ltb _ _ c.if1.false)
+returns_2 c = passed_over _ _ (le-ltb _ _ c.if1.false)
 
 pub place-spec : {M : Type 1} → statement M
-place-spec = tie.close (tie.spec cast-if1 cast-result returns returns-2)
+place-spec = tie.close (tie.spec cast-if1 cast-result returns returns_2)

@@ -1,5 +1,5 @@
 -- Within the list the search decides; beyond it nothing stands.
-use Rattle.fields.specs.laws.Repeats.{again_by, not-again}
+use Rattle.fields.specs.laws.Repeats.{again_by, not_again}
 use borrow.Author.Rules.{rules}
 use Rattle.fields.proofs.words.stood_before.Statement.{statement}
 use Rattle.fields.proofs.words.stood_before.Tie as tie
@@ -22,11 +22,11 @@ stands-before-requires c κs = search rules
 returns : tie.Need-returns
 returns c =
     let test = c.before.before in
-    let found = c.stands-before.ensures in
+    let found = c.stands_before.ensures in
     again_by _ _ _ test.before.word_at.ensures test.if1.true (rw c.before.word-at2.ensures at found)
 
-returns-2 : tie.Need-returns-2
-returns-2 c = not-again _ _ _ c.before.word_at.ensures c.if1.false
+returns_2 : tie.Need-returns-2
+returns_2 c = not_again _ _ _ c.before.word_at.ensures c.if1.false
 
 pub stood-before-spec : {M : Type 1} → statement M
 stood-before-spec =
@@ -38,4 +38,4 @@ stood-before-spec =
     word-at-requires-2
     stands-before-requires
     returns
-    returns-2)
+    returns_2)

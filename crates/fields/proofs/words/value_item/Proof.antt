@@ -2,8 +2,8 @@ use borrow.Author.Rules.{rules}
 use Rattle.fields.proofs.words.value_item.Statement.{statement}
 use Rattle.fields.proofs.words.value_item.Tie as tie
 use mathlib.Core.Path.{◌∙◌}
-use Rattle.fields.specs.ItemsAndPlaces.{value-item, value-at}
-use Rattle.meaning.specs.facts.Tests.{picked, passed_over, is_below, not-below}
+use Rattle.fields.specs.ItemsAndPlaces.{value_item, value_at}
+use Rattle.meaning.specs.facts.Tests.{picked, passed_over, is_below, not_below}
 
 word-at-requires : tie.Need-word-at-requires
 word-at-requires c κs = search rules
@@ -36,7 +36,7 @@ value-of-requires : tie.Need-value-of-requires
 value-of-requires c κs = search rules
 
 returns : tie.Need-returns
-unfolding value-item value-at
+unfolding value_item value_at
 returns c =
     let at-if1 = c.before.before.before.before in
     let at-word-at = at-if1.before in
@@ -46,9 +46,9 @@ returns c =
       c.before.before.before.word-at2.ensures,
     ) (picked _ _ (is_below at-if1.if1.true at-word-at.word_at.ensures))
 
-returns-2 : tie.Need-returns-2
-unfolding value-item
-returns-2 c = passed_over _ _ (not-below c.if1.false c.before.word_at.ensures)
+returns_2 : tie.Need-returns-2
+unfolding value_item
+returns_2 c = passed_over _ _ (not_below c.if1.false c.before.word_at.ensures)
 
 pub value-item-spec : {M : Type 1} → statement M
 value-item-spec =
@@ -65,4 +65,4 @@ value-item-spec =
     word-at-requires-4
     value-of-requires
     returns
-    returns-2)
+    returns_2)

@@ -6,14 +6,14 @@ use borrow.Author.Tests.{eq-eqb, ne_eqb, le-leb, lt-leb}
 returns : tie.Need-returns
 returns c = simp (eq-eqb _ _ c.if1.true)
 
-returns-2 : tie.Need-returns-2
-returns-2 c = simp (ne_eqb _ _ c.before.if1.false, eq-eqb _ _ c.if2.true)
+returns_2 : tie.Need-returns-2
+returns_2 c = simp (ne_eqb _ _ c.before.if1.false, eq-eqb _ _ c.if2.true)
 
-returns-3 : tie.Need-returns-3
-returns-3 c = simp (ne_eqb _ _ c.before.before.if1.false, ne_eqb _ _ c.before.if2.false, ne_eqb _ _ c.if3.true)
+returns_3 : tie.Need-returns-3
+returns_3 c = simp (ne_eqb _ _ c.before.before.if1.false, ne_eqb _ _ c.before.if2.false, ne_eqb _ _ c.if3.true)
 
-returns-4 : tie.Need-returns-4
-returns-4 c =
+returns_4 : tie.Need-returns-4
+returns_4 c =
     simp (
       ne_eqb _ _ c.before.before.before.if1.false,
       ne_eqb _ _ c.before.before.if2.false,
@@ -21,8 +21,8 @@ returns-4 c =
       eq-eqb _ _ c.if4.true,
     )
 
-returns-5 : tie.Need-returns-5
-returns-5 c =
+returns_5 : tie.Need-returns-5
+returns_5 c =
     let at-if1 = c.before.before.before.before in
     simp (
       ne_eqb _ _ at-if1.if1.false,
@@ -66,4 +66,4 @@ returns-7 c =
 
 pub value-of-spec : {M : Type 1} → statement M
 value-of-spec =
-    tie.close (tie.spec returns returns-2 returns-3 returns-4 returns-5 returns-6 returns-7)
+    tie.close (tie.spec returns returns_2 returns_3 returns_4 returns_5 returns-6 returns-7)

@@ -2,8 +2,8 @@
 use mathlib.Core.Path.{refl}
 use native.Mathlib.Omega.{arith}
 use borrow.Author.Rules.{rules}
-use Rattle.reading.specs.laws.TerminatorsForgotten.{edges-stop, edges-rest, targets-inside}
-use Rattle.reading.specs.laws.AnswerSteps.{step-read, step-refused, refuse-step, give-rest}
+use Rattle.reading.specs.laws.TerminatorsForgotten.{edges_stop, edges_rest, targets_inside}
+use Rattle.reading.specs.laws.AnswerSteps.{step_read, step_refused, refuse_step, give_rest}
 use Rattle.reading.proofs.terminators.edges.Statement.{statement}
 use Rattle.reading.proofs.terminators.edges.Tie as tie
 
@@ -25,10 +25,10 @@ distinct-requires c κs =
     let at-tells-length-arg = at_words.before.before in
     let at-args = at-tells-length-arg.before in
     λ j l.
-    let a = step-read _ _ _ refl at_words.words.ensures c.before.e.given.1 in
+    let a = step_read _ _ _ refl at_words.words.ensures c.before.e.given.1 in
     omega (
       arith,
-      (targets-inside at-args.args.n
+      (targets_inside at-args.args.n
           at-args.args.w.now
           at-args.args.c.end
           at-args.args.c.at a.is j l).1,
@@ -41,16 +41,16 @@ passes-requires c κs = search rules
 returns : tie.Need-returns
 returns c =
     let start = c.before.before.before.before.before.before in
-    refuse-step _ _ _ (edges-stop _ start.args.w.now start.args.c.end _
-    (step-refused _ _ _ refl c.before.before.before.words.ensures c.before.m.given.1))
+    refuse_step _ _ _ (edges_stop _ start.args.w.now start.args.c.end _
+    (step_refused _ _ _ refl c.before.before.before.words.ensures c.before.m.given.1))
 
-returns-2 : tie.Need-returns-2
-returns-2 c =
+returns_2 : tie.Need-returns-2
+returns_2 c =
     let at_words = c.before.before.before.before.before in
     let start = at_words.before.before.before in
-    let a = step-read _ _ _ refl at_words.words.ensures c.before.before.before.e.given.1 in
-    give-rest _ _ _ _ _ a.same c.passes.ensures
-    (edges-rest _ start.args.w.now start.args.c.end _ c.before.distinct.ensures a.is)
+    let a = step_read _ _ _ refl at_words.words.ensures c.before.before.before.e.given.1 in
+    give_rest _ _ _ _ _ a.same c.passes.ensures
+    (edges_rest _ start.args.w.now start.args.c.end _ c.before.distinct.ensures a.is)
 
 pub edges_spec : {M : Type 1} → statement M
 edges_spec =
@@ -63,4 +63,4 @@ edges_spec =
     distinct-requires
     passes-requires
     returns
-    returns-2)
+    returns_2)

@@ -6,8 +6,8 @@ use Rattle.reading.proofs.terminators.fewest_values.Tie as tie
 returns : tie.Need-returns
 returns c = rw (le-leb _ _ c.if1.true)
 
-returns-2 : tie.Need-returns-2
-returns-2 c = rw (lt-leb _ _ c.if1.false)
+returns_2 : tie.Need-returns-2
+returns_2 c = rw (lt-leb _ _ c.if1.false)
 
 pub fewest-values-spec : {M : Type 1} → statement M
-fewest-values-spec = tie.close (tie.spec returns returns-2)
+fewest-values-spec = tie.close (tie.spec returns returns_2)

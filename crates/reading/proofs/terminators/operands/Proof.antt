@@ -1,8 +1,8 @@
--- Each answer is a path through `operands-read`, at the bounds of the kind.
+-- Each answer is a path through `operands_read`, at the bounds of the kind.
 use mathlib.Core.Path.{refl}
 use borrow.Author.Rules.{rules}
-use Rattle.reading.specs.laws.TerminatorsForgotten.{operands-stop, operands-count, operands-rest}
-use Rattle.reading.specs.laws.AnswerSteps.{word_read, word-refused, step-read, step-refused, refuse-step, give-rest}
+use Rattle.reading.specs.laws.TerminatorsForgotten.{operands_stop, operands_count, operands_rest}
+use Rattle.reading.specs.laws.AnswerSteps.{word_read, word_refused, step_read, step_refused, refuse_step, give_rest}
 use Rattle.reading.proofs.terminators.operands.Statement.{statement}
 use Rattle.reading.proofs.terminators.operands.Tie as tie
 
@@ -43,24 +43,24 @@ returns : tie.Need-returns
 returns c =
     let at-most-values = c.before.before.before.before in
     let at-fewest-values = at-most-values.before in
-    refuse-step _ _ _ (operands-stop _ _ _ at-fewest-values.fewest-values.ensures at-most-values.most_values.ensures
-    (step-refused _ _ _ refl c.before.before.before.counted-values.ensures c.before.m.given.1))
+    refuse_step _ _ _ (operands_stop _ _ _ at-fewest-values.fewest_values.ensures at-most-values.most_values.ensures
+    (step_refused _ _ _ refl c.before.before.before.counted-values.ensures c.before.m.given.1))
 
-returns-2 : tie.Need-returns-2
-returns-2 c =
+returns_2 : tie.Need-returns-2
+returns_2 c =
     let at-most-targets = c.before.before.before.before in
     let at-fewest-targets = at-most-targets.before in
     let at_p = at-fewest-targets.before.before in
     let at-counted-values = at_p.before.before in
     let at-most-values = at-counted-values.before in
     let at-fewest-values = at-most-values.before in
-    let a = step-read _ _ _ refl at-counted-values.counted-values.ensures at_p.p.given.1 in
-    refuse-step _ _ _ (operands-count _ _ _ at-fewest-values.fewest-values.ensures at-most-values.most_values.ensures a.is
-    at-fewest-targets.fewest-targets.ensures at-most-targets.most-targets.ensures
-    (word-refused _ _ _ a.same c.before.before.before.within.ensures c.before.m2.given.1))
+    let a = step_read _ _ _ refl at-counted-values.counted-values.ensures at_p.p.given.1 in
+    refuse_step _ _ _ (operands_count _ _ _ at-fewest-values.fewest_values.ensures at-most-values.most_values.ensures a.is
+    at-fewest-targets.fewest_targets.ensures at-most-targets.most_targets.ensures
+    (word_refused _ _ _ a.same c.before.before.before.within.ensures c.before.m2.given.1))
 
-returns-3 : tie.Need-returns-3
-returns-3 c =
+returns_3 : tie.Need-returns-3
+returns_3 c =
     let at-within = c.before.before.before.before in
     let at-most-targets = at-within.before in
     let at-fewest-targets = at-most-targets.before in
@@ -68,10 +68,10 @@ returns-3 c =
     let at-counted-values = at_p.before.before in
     let at-most-values = at-counted-values.before in
     let at-fewest-values = at-most-values.before in
-    let a = step-read _ _ _ refl at-counted-values.counted-values.ensures at_p.p.given.1 in
+    let a = step_read _ _ _ refl at-counted-values.counted-values.ensures at_p.p.given.1 in
     let b = word_read _ _ _ a.same at-within.within.ensures c.before.before.n.given.1 in
-    give-rest _ _ _ _ _ b.same c.edges.ensures (operands-rest _ _ _ at-fewest-values.fewest-values.ensures
-    at-most-values.most_values.ensures a.is at-fewest-targets.fewest-targets.ensures at-most-targets.most-targets.ensures
+    give_rest _ _ _ _ _ b.same c.edges.ensures (operands_rest _ _ _ at-fewest-values.fewest_values.ensures
+    at-most-values.most_values.ensures a.is at-fewest-targets.fewest_targets.ensures at-most-targets.most_targets.ensures
     b.is)
 
 pub operands-spec : {M : Type 1} → statement M
@@ -90,5 +90,5 @@ operands-spec =
     enum-known-n
     edges-requires
     returns
-    returns-2
-    returns-3)
+    returns_2
+    returns_3)

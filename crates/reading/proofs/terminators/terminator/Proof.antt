@@ -1,8 +1,8 @@
 -- Each answer is a path through the reader `terminator`.
 use mathlib.Core.Path.{refl}
 use borrow.Author.Rules.{rules}
-use Rattle.reading.specs.laws.TerminatorsForgotten.{terminator-stop, terminator-opcode, terminator-rest}
-use Rattle.reading.specs.laws.AnswerSteps.{word_read, word-refused, step-read, step-refused, refuse-step, give-rest}
+use Rattle.reading.specs.laws.TerminatorsForgotten.{terminator_stop, terminator_opcode, terminator_rest}
+use Rattle.reading.specs.laws.AnswerSteps.{word_read, word_refused, step_read, step_refused, refuse_step, give_rest}
 use Rattle.reading.proofs.terminators.terminator.Statement.{statement}
 use Rattle.reading.proofs.terminators.terminator.Tie as tie
 
@@ -29,24 +29,24 @@ operands-requires c κs = search rules
 
 returns : tie.Need-returns
 returns c =
-    refuse-step _ _ _ (terminator-stop _ _ (word-refused _ _ _ refl c.before.before.before.within.ensures c.before.m.given.1))
+    refuse_step _ _ _ (terminator_stop _ _ (word_refused _ _ _ refl c.before.before.before.within.ensures c.before.m.given.1))
 
-returns-2 : tie.Need-returns-2
-returns-2 c =
+returns_2 : tie.Need-returns-2
+returns_2 c =
     let at-k = c.before.before.before.before.before in
     let at-within = at-k.before.before in
     let a = word_read _ _ _ refl at-within.within.ensures at-k.k.given.1 in
-    refuse-step _ _ _ (terminator-opcode _ _ a.is (step-refused _ _ _ a.same c.before.before.before.opcode-for.ensures
+    refuse_step _ _ _ (terminator_opcode _ _ a.is (step_refused _ _ _ a.same c.before.before.before.opcode_for.ensures
     c.before.m2.given.1))
 
-returns-3 : tie.Need-returns-3
-returns-3 c =
+returns_3 : tie.Need-returns-3
+returns_3 c =
     let at-opcode-for = c.before.before.before.before in
     let at-k = at-opcode-for.before.before in
     let at-within = at-k.before.before in
     let a = word_read _ _ _ refl at-within.within.ensures at-k.k.given.1 in
-    let b = step-read _ _ _ a.same at-opcode-for.opcode-for.ensures c.before.before.e.given.1 in
-    give-rest _ _ _ _ _ b.same c.operands.ensures (terminator-rest _ _ a.is b.is)
+    let b = step_read _ _ _ a.same at-opcode-for.opcode_for.ensures c.before.before.e.given.1 in
+    give_rest _ _ _ _ _ b.same c.operands.ensures (terminator_rest _ _ a.is b.is)
 
 pub terminator-spec : {M : Type 1} → statement M
 terminator-spec =
@@ -60,5 +60,5 @@ terminator-spec =
     enum-known-e
     operands-requires
     returns
-    returns-2
-    returns-3)
+    returns_2
+    returns_3)

@@ -2,8 +2,8 @@
 use mathlib.Core.Path.{refl}
 use borrow.Author.Rules.{rules}
 use Rattle.format.specs.Read.{word}
-use Rattle.reading.specs.laws.ValuesForgotten.{instruction-stop, instruction-type, instruction-cost, instruction-rest}
-use Rattle.reading.specs.laws.AnswerSteps.{word_read, word-refused, refuse-step, give-rest}
+use Rattle.reading.specs.laws.ValuesForgotten.{instruction_stop, instruction_type, instruction_cost, instruction_rest}
+use Rattle.reading.specs.laws.AnswerSteps.{word_read, word_refused, refuse_step, give_rest}
 use Rattle.reading.proofs.values.instruction.Statement.{statement}
 use Rattle.reading.proofs.values.instruction.Tie as tie
 
@@ -39,29 +39,29 @@ counted-values-requires c κs = search rules
 
 returns : tie.Need-returns
 returns c =
-    refuse-step _ _ _ (instruction-stop _ _ (word-refused _ _ _ refl c.before.before.before.word.ensures c.before.m.given.1))
+    refuse_step _ _ _ (instruction_stop _ _ (word_refused _ _ _ refl c.before.before.before.word.ensures c.before.m.given.1))
 
-returns-2 : tie.Need-returns-2
-returns-2 c =
+returns_2 : tie.Need-returns-2
+returns_2 c =
     let at_p = c.before.before.before.before.before in
     let at-word = at_p.before.before in
     let a = word_read _ _ _ refl at-word.word.ensures at_p.p.given.1 in
-    refuse-step _ _ _ (instruction-type _ _ a.is (word-refused _ _ _ a.same c.before.before.before.within.ensures
+    refuse_step _ _ _ (instruction_type _ _ a.is (word_refused _ _ _ a.same c.before.before.before.within.ensures
     c.before.m2.given.1))
 
-returns-3 : tie.Need-returns-3
-returns-3 c =
+returns_3 : tie.Need-returns-3
+returns_3 c =
     let at-q = c.before.before.before.before.before in
     let at-within = at-q.before.before in
     let at_p = at-within.before.before in
     let at-word = at_p.before.before in
     let a = word_read _ _ _ refl at-word.word.ensures at_p.p.given.1 in
     let b = word_read _ _ _ a.same at-within.within.ensures at-q.q.given.1 in
-    refuse-step _ _ _ (instruction-cost _ _ a.is b.is
-    (word-refused _ _ _ b.same c.before.before.before.word2.ensures c.before.m3.given.1))
+    refuse_step _ _ _ (instruction_cost _ _ a.is b.is
+    (word_refused _ _ _ b.same c.before.before.before.word2.ensures c.before.m3.given.1))
 
-returns-4 : tie.Need-returns-4
-returns-4 c =
+returns_4 : tie.Need-returns-4
+returns_4 c =
     let at-word2 = c.before.before.before.before in
     let at-q = at-word2.before.before in
     let at-within = at-q.before.before in
@@ -70,7 +70,7 @@ returns-4 c =
     let a = word_read _ _ _ refl at-word.word.ensures at_p.p.given.1 in
     let b = word_read _ _ _ a.same at-within.within.ensures at-q.q.given.1 in
     let d = word_read _ _ _ b.same at-word2.word2.ensures c.before.before.e.given.1 in
-    give-rest _ _ _ _ _ d.same c.counted-values.ensures (instruction-rest _ _ a.is b.is d.is)
+    give_rest _ _ _ _ _ d.same c.counted-values.ensures (instruction_rest _ _ a.is b.is d.is)
 
 pub instruction-spec : {M : Type 1} → statement M
 instruction-spec =
@@ -87,6 +87,6 @@ instruction-spec =
     enum-known-e
     counted-values-requires
     returns
-    returns-2
-    returns-3
-    returns-4)
+    returns_2
+    returns_3
+    returns_4)

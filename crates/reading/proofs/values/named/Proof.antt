@@ -2,8 +2,8 @@
 use mathlib.Core.Path.{refl, sym, ◌∙◌}
 use borrow.Author.Rules.{rules}
 use Rattle.format.specs.Read.{word}
-use Rattle.reading.specs.laws.ValuesForgotten.{named-stop, named-short, named-bad, named_in}
-use Rattle.reading.specs.laws.AnswerSteps.{word_read, word-refused, refuse-step, give-step}
+use Rattle.reading.specs.laws.ValuesForgotten.{named_stop, named_short, named_bad, named_in}
+use Rattle.reading.specs.laws.AnswerSteps.{word_read, word_refused, refuse_step, give_step}
 use Rattle.reading.proofs.values.named.Statement.{statement}
 use Rattle.reading.proofs.values.named.Tie as tie
 
@@ -35,28 +35,28 @@ returns c =
     let at-word = at_p.before.before in
     let a = word_read _ _ _ refl at-word.word.ensures at_p.p.given.1 in
     let b = word_read _ _ _ a.same at-word2.word2.ensures c.before.before.before.i.given.1 in
-    give-step _ _ _ b.same (named_in _ _ _ a.is b.is (sym c.before.index-right.ensures ∙ c.if1.true))
+    give_step _ _ _ b.same (named_in _ _ _ a.is b.is (sym c.before.index_right.ensures ∙ c.if1.true))
 
-returns-2 : tie.Need-returns-2
-returns-2 c =
-    refuse-step _ _ _ (named-stop _ _ _ (word-refused _ _ _ refl c.before.before.before.word.ensures c.before.m.given.1))
+returns_2 : tie.Need-returns-2
+returns_2 c =
+    refuse_step _ _ _ (named_stop _ _ _ (word_refused _ _ _ refl c.before.before.before.word.ensures c.before.m.given.1))
 
-returns-3 : tie.Need-returns-3
-returns-3 c =
+returns_3 : tie.Need-returns-3
+returns_3 c =
     let at_p = c.before.before.before.before.before in
     let at-word = at_p.before.before in
     let a = word_read _ _ _ refl at-word.word.ensures at_p.p.given.1 in
-    refuse-step _ _ _ (named-short _ _ _ a.is (word-refused _ _ _ a.same c.before.before.before.word2.ensures
+    refuse_step _ _ _ (named_short _ _ _ a.is (word_refused _ _ _ a.same c.before.before.before.word2.ensures
     c.before.m2.given.1))
 
-returns-4 : tie.Need-returns-4
-returns-4 c =
+returns_4 : tie.Need-returns-4
+returns_4 c =
     let at-word2 = c.before.before.before.before.before in
     let at_p = at-word2.before.before in
     let at-word = at_p.before.before in
     let a = word_read _ _ _ refl at-word.word.ensures at_p.p.given.1 in
     let b = word_read _ _ _ a.same at-word2.word2.ensures c.before.before.before.i.given.1 in
-    refuse-step _ _ _ (named-bad _ _ _ a.is b.is (sym c.before.index-right.ensures ∙ c.if1.false))
+    refuse_step _ _ _ (named_bad _ _ _ a.is b.is (sym c.before.index_right.ensures ∙ c.if1.false))
 
 pub named-spec : {M : Type 1} → statement M
 named-spec =
@@ -70,6 +70,6 @@ named-spec =
     enum-known-i
     index-right-requires
     returns
-    returns-2
-    returns-3
-    returns-4)
+    returns_2
+    returns_3
+    returns_4)

@@ -2,8 +2,8 @@
 use mathlib.Core.Path.{refl, sym, ◌∙◌}
 use borrow.Author.Rules.{rules}
 use Rattle.format.specs.Read.{word}
-use Rattle.reading.specs.laws.ValuesForgotten.{value-stop, value-kind, value-rest}
-use Rattle.reading.specs.laws.AnswerSteps.{word_read, word-refused, refuse-step, give-rest}
+use Rattle.reading.specs.laws.ValuesForgotten.{value_stop, value_kind, value_rest}
+use Rattle.reading.specs.laws.AnswerSteps.{word_read, word_refused, refuse_step, give_rest}
 use Rattle.reading.proofs.values.value.Statement.{statement}
 use Rattle.reading.proofs.values.value.Tie as tie
 
@@ -27,18 +27,18 @@ returns c =
     let at-k = c.before.before.before.before in
     let at-word = at-k.before.before in
     let a = word_read _ _ _ refl at-word.word.ensures at-k.k.given.1 in
-    give-rest _ _ _ _ _ a.same c.named.ensures (value-rest _ _ a.is
-    (sym c.before.before.is-kind.ensures ∙ c.before.if1.true))
+    give_rest _ _ _ _ _ a.same c.named.ensures (value_rest _ _ a.is
+    (sym c.before.before.is_kind.ensures ∙ c.before.if1.true))
 
-returns-2 : tie.Need-returns-2
-returns-2 c =
-    refuse-step _ _ _ (value-stop _ _ (word-refused _ _ _ refl c.before.before.before.word.ensures c.before.m.given.1))
+returns_2 : tie.Need-returns-2
+returns_2 c =
+    refuse_step _ _ _ (value_stop _ _ (word_refused _ _ _ refl c.before.before.before.word.ensures c.before.m.given.1))
 
-returns-3 : tie.Need-returns-3
-returns-3 c =
+returns_3 : tie.Need-returns-3
+returns_3 c =
     let at-word = c.before.before.before.before.before in
     let a = word_read _ _ _ refl at-word.word.ensures c.before.before.before.k.given.1 in
-    refuse-step _ _ _ (value-kind _ _ a.is (sym c.before.is-kind.ensures ∙ c.if1.false))
+    refuse_step _ _ _ (value_kind _ _ a.is (sym c.before.is_kind.ensures ∙ c.if1.false))
 
 pub value_spec : {M : Type 1} → statement M
 value_spec =
@@ -50,5 +50,5 @@ value_spec =
     is-kind-requires
     named-requires
     returns
-    returns-2
-    returns-3)
+    returns_2
+    returns_3)

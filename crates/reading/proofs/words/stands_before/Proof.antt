@@ -5,7 +5,7 @@ use mathlib.Core.Path.{◌≡◌, refl, sym, ◌∙◌}
 use mathlib.Core.Bool.{false}
 use Prim.Native.Nat.{◌≤◌, ◌-◌}
 use Rattle.reading.specs.Readings.{stands}
-use Rattle.reading.specs.laws.Targets.{stands_here, stands-not, stands-end}
+use Rattle.reading.specs.laws.Targets.{stands_here, stands_not, stands_end}
 use Rattle.reading.proofs.words.stands_before.Statement.{statement}
 use Rattle.reading.proofs.words.stands_before.Tie as tie
 
@@ -15,9 +15,9 @@ invariant-loop w from t n i₀ i = (i ≤ n) × (false ≡ stands w from t i)
 abbrev decreases-loop : tie.decreases-loop
 decreases-loop w from t n i₀ i = n - i
 
-loop-holds : tie.Need-loop-init invariant-loop decreases-loop
+loop_holds : tie.Need-loop-init invariant-loop decreases-loop
 unfolding stands
-loop-holds c = (omega arith, refl)
+loop_holds c = (omega arith, refl)
 
 cast-word-at : tie.Need-overflow-cast-word-at invariant-loop decreases-loop
 cast-word-at c = search rules
@@ -31,18 +31,18 @@ word-at-requires c κs = search rules
 returns : tie.Need-returns invariant-loop decreases-loop
 returns c = stands_here _ _ _ _ _ c.before.before.loop-test.true (c.if1.true ∙ c.before.word_at.ensures)
 
-add-i : tie.Need-overflow-add-i invariant-loop decreases-loop
-add-i c = omega arith
+add_i : tie.Need-overflow-add-i invariant-loop decreases-loop
+add_i c = omega arith
 
-loop-less : tie.Need-loop-smaller invariant-loop decreases-loop
-loop-less c = omega arith
+loop_less : tie.Need-loop-smaller invariant-loop decreases-loop
+loop_less c = omega arith
 
-loop-again : tie.Need-loop-preserved invariant-loop decreases-loop
-loop-again c =
-    (omega arith, stands-not _ _ _ _ c.before.before.before.loop.invariant.1 (λ e. c.if1.false (e ∙ sym c.before.word_at.ensures)))
+loop_again : tie.Need-loop-preserved invariant-loop decreases-loop
+loop_again c =
+    (omega arith, stands_not _ _ _ _ c.before.before.before.loop.invariant.1 (λ e. c.if1.false (e ∙ sym c.before.word_at.ensures)))
 
-returns-2 : tie.Need-returns-2 invariant-loop decreases-loop
-returns-2 c = stands-end _ _ _ _ _ c.before.loop.invariant.0 c.loop-test.false c.before.loop.invariant.1
+returns_2 : tie.Need-returns-2 invariant-loop decreases-loop
+returns_2 c = stands_end _ _ _ _ _ c.before.loop.invariant.0 c.loop-test.false c.before.loop.invariant.1
 
 pub stands-before-spec : {M : Type 1} → statement M
 stands-before-spec =
@@ -50,12 +50,12 @@ stands-before-spec =
     (tie.spec
     invariant-loop
     decreases-loop
-    loop-holds
+    loop_holds
     cast-word-at
     add-word-at
     word-at-requires
     returns
-    add-i
-    loop-less
-    loop-again
-    returns-2)
+    add_i
+    loop_less
+    loop_again
+    returns_2)

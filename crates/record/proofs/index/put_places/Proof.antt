@@ -1,6 +1,6 @@
 -- Three stores and the blocks are a row of the index.
 use native.Mathlib.Omega.{arith}
-use Rattle.record.specs.laws.IndexSteps.{store-row}
+use Rattle.record.specs.laws.IndexSteps.{store_row}
 use borrow.Author.Rules.{rules}
 use Rattle.record.proofs.index.put_places.Statement.{statement}
 use Rattle.record.proofs.index.put_places.Tie as tie
@@ -50,7 +50,7 @@ store-blocks-requires c κs = search rules
 returns : tie.Need-returns
 returns c =
     let start = c.before.before.before.before.before.before in
-    store-row _ _ _ _ _ start.requires (omega (arith, c.before.before.before.before.tells-length-arg2.given)) c.store-blocks.ensures
+    store_row _ _ _ _ _ start.requires (omega (arith, c.before.before.before.before.tells-length-arg2.given)) c.store-blocks.ensures
 
 pub put-places-spec : {M : Type 1} → statement M
 put-places-spec =

@@ -5,7 +5,7 @@ use mathlib.Core.Path.{refl}
 use Prim.Native.Nat.{◌≤◌, ◌-◌}
 use lib.ListN.{get_or}
 use Rattle.record.specs.Index.{Row}
-use Rattle.record.specs.laws.Row.{row-none, row_next, row-end}
+use Rattle.record.specs.laws.Row.{row_none, row_next, row_end}
 use Rattle.record.proofs.index.store_blocks.Statement.{statement}
 use Rattle.record.proofs.index.store_blocks.Tie as tie
 
@@ -18,8 +18,8 @@ decreases-loop w₀ at places b₀ w b = 8 - b
 tells-length-requires : tie.Need-tells-length-requires invariant-loop decreases-loop
 tells-length-requires c κs = search rules
 
-loop-holds : tie.Need-loop-init invariant-loop decreases-loop
-loop-holds c = (omega arith, row-none _ _ _)
+loop_holds : tie.Need-loop-init invariant-loop decreases-loop
+loop_holds c = (omega arith, row_none _ _ _)
 
 mul-w : tie.Need-overflow-mul-w invariant-loop decreases-loop
 mul-w c = search rules
@@ -39,18 +39,18 @@ element-write-w c = omega arith
 add-b : tie.Need-overflow-add-b invariant-loop decreases-loop
 add-b c = omega arith
 
-loop-less : tie.Need-loop-smaller invariant-loop decreases-loop
-loop-less c = omega arith
+loop_less : tie.Need-loop-smaller invariant-loop decreases-loop
+loop_less c = omega arith
 
-loop-again : tie.Need-loop-preserved invariant-loop decreases-loop
-loop-again c = (
+loop_again : tie.Need-loop-preserved invariant-loop decreases-loop
+loop_again c = (
   omega arith,
   row_next _ _ _ _ _ c.before.loop.invariant.1
       (omega (arith, c.before.before.before.tells-length-arg2.given)) refl,
 )
 
 returns : tie.Need-returns invariant-loop decreases-loop
-returns c = row-end _ _ _ _ _ _ c.before.loop.invariant.0 c.loop-test.false c.before.loop.invariant.1
+returns c = row_end _ _ _ _ _ _ c.before.loop.invariant.0 c.loop-test.false c.before.loop.invariant.1
 
 pub store-blocks-spec : {M : Type 1} → statement M
 store-blocks-spec =
@@ -59,13 +59,13 @@ store-blocks-spec =
     invariant-loop
     decreases-loop
     tells-length-requires
-    loop-holds
+    loop_holds
     mul-w
     array-read-w
     add-w
     mul-w-2
     element-write-w
     add-b
-    loop-less
-    loop-again
+    loop_less
+    loop_again
     returns)

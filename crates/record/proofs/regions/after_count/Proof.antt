@@ -1,9 +1,9 @@
--- Each answer is a path through `after-count`.
+-- Each answer is a path through `after_count`.
 use mathlib.Core.Path.{refl}
 use borrow.Author.Rules.{rules}
 use Rattle.format.specs.Read.{word}
-use Rattle.reading.specs.laws.AnswerSteps.{word_read, word-refused, refuse-step, give-rest}
-use Rattle.record.specs.laws.RegionsForgotten.{after-count-entry, after-count-test, after-count-rest}
+use Rattle.reading.specs.laws.AnswerSteps.{word_read, word_refused, refuse_step, give_rest}
+use Rattle.record.specs.laws.RegionsForgotten.{after_count_entry, after_count_test, after_count_rest}
 use Rattle.record.proofs.regions.after_count.Statement.{statement}
 use Rattle.record.proofs.regions.after_count.Tie as tie
 
@@ -30,24 +30,24 @@ counted-types-requires c κs = search rules
 
 returns : tie.Need-returns
 returns c =
-    refuse-step _ _ _ (after-count-entry _ _ (word-refused _ _ _ refl c.before.before.before.word.ensures c.before.m.given.1))
+    refuse_step _ _ _ (after_count_entry _ _ (word_refused _ _ _ refl c.before.before.before.word.ensures c.before.m.given.1))
 
-returns-2 : tie.Need-returns-2
-returns-2 c =
+returns_2 : tie.Need-returns-2
+returns_2 c =
     let at_p = c.before.before.before.before.before in
     let at-word = at_p.before.before in
     let a = word_read _ _ _ refl at-word.word.ensures at_p.p.given.1 in
-    refuse-step _ _ _ (after-count-test _ _ a.is (word-refused _ _ _ a.same c.before.before.before.word2.ensures
+    refuse_step _ _ _ (after_count_test _ _ a.is (word_refused _ _ _ a.same c.before.before.before.word2.ensures
     c.before.m2.given.1))
 
-returns-3 : tie.Need-returns-3
-returns-3 c =
+returns_3 : tie.Need-returns-3
+returns_3 c =
     let at-word2 = c.before.before.before.before in
     let at_p = at-word2.before.before in
     let at-word = at_p.before.before in
     let a = word_read _ _ _ refl at-word.word.ensures at_p.p.given.1 in
     let b = word_read _ _ _ a.same at-word2.word2.ensures c.before.before.e.given.1 in
-    give-rest _ _ _ _ _ b.same c.counted-types.ensures (after-count-rest _ _ a.is b.is)
+    give_rest _ _ _ _ _ b.same c.counted-types.ensures (after_count_rest _ _ a.is b.is)
 
 pub after-count-spec : {M : Type 1} → statement M
 after-count-spec =
@@ -61,5 +61,5 @@ after-count-spec =
     enum-known-e
     counted-types-requires
     returns
-    returns-2
-    returns-3)
+    returns_2
+    returns_3)

@@ -4,10 +4,10 @@ use Prim.Native.Nat.{◌-◌}
 use native.Mathlib.Omega.{arith}
 use lib.ListN.{take}
 use borrow.Author.Rules.{rules}
-use Rattle.reading.specs.laws.AnswerSteps.{step-read, step-refused}
-use Rattle.meaning.specs.facts.Parts.{taken-inside}
+use Rattle.reading.specs.laws.AnswerSteps.{step_read, step_refused}
+use Rattle.meaning.specs.facts.Parts.{taken_inside}
 use Rattle.record.specs.laws.RegionsForgotten.{block_inside}
-use Rattle.record.specs.laws.RegionSteps.{BlocksGoing, blocks_start, blocks-next, blocks-stop, blocks_end}
+use Rattle.record.specs.laws.RegionSteps.{BlocksGoing, blocks_start, blocks_next, blocks_stop, blocks_end}
 use Rattle.record.proofs.regions.blocks.Statement.{statement}
 use Rattle.record.proofs.regions.blocks.Tie as tie
 
@@ -20,8 +20,8 @@ decreases-loop w n places₀ i₀ c₀ places i c = n - i
 tells-length-requires : tie.Need-tells-length-requires invariant-loop decreases-loop
 tells-length-requires c κs = search rules
 
-loop-holds : tie.Need-loop-init invariant-loop decreases-loop
-loop-holds c = (blocks_start _ _ _, refl)
+loop_holds : tie.Need-loop-init invariant-loop decreases-loop
+loop_holds c = (blocks_start _ _ _, refl)
 
 block-requires : tie.Need-block-requires invariant-loop decreases-loop
 block-requires c κs = search rules
@@ -33,8 +33,8 @@ returns : tie.Need-returns invariant-loop decreases-loop
 returns c =
     let turn = c.before.before.before.before in
     let at-loop = turn.before in
-    blocks-stop _ _ _ at-loop.loop.invariant.0 turn.loop-test.true
-    (step-refused _ _ _ at-loop.loop.invariant.1 c.before.before.before.block.ensures c.before.m.given.1)
+    blocks_stop _ _ _ at-loop.loop.invariant.0 turn.loop-test.true
+    (step_refused _ _ _ at-loop.loop.invariant.1 c.before.before.before.block.ensures c.before.m.given.1)
 
 enum-known-e : tie.Need-enum-known-e invariant-loop decreases-loop
 enum-known-e c = search rules
@@ -46,11 +46,11 @@ cast-places c =
     let at-loop = at_block.before.before in
     let at-tells-length-arg = at-loop.before.before in
     let at-args = at-tells-length-arg.before in
-    let a = step-read _ _ _ at-loop.loop.invariant.1
+    let a = step_read _ _ _ at-loop.loop.invariant.1
     at_block.block.ensures at-e.e.given.1 in
     omega (
       arith,
-      (taken-inside at-args.args.w.now
+      (taken_inside at-args.args.w.now
           at-args.args.from.end (block_inside _ _ a.is)).1,
       at-tells-length-arg.tells-length-arg.given,
     )
@@ -64,23 +64,23 @@ mul-places c = search rules
 array-write-places : tie.Need-array-write-places invariant-loop decreases-loop
 array-write-places c = omega arith
 
-add-i : tie.Need-overflow-add-i invariant-loop decreases-loop
-add-i c = omega arith
+add_i : tie.Need-overflow-add-i invariant-loop decreases-loop
+add_i c = omega arith
 
-loop-less : tie.Need-loop-smaller invariant-loop decreases-loop
-loop-less c = omega arith
+loop_less : tie.Need-loop-smaller invariant-loop decreases-loop
+loop_less c = omega arith
 
-loop-again : tie.Need-loop-preserved invariant-loop decreases-loop
-loop-again c =
+loop_again : tie.Need-loop-preserved invariant-loop decreases-loop
+loop_again c =
     let at_block = c.before.before.before.before in
     let turn = at_block.before in
     let at-loop = turn.before in
     let start = at-loop.before.before.before in
-    let a = step-read _ _ _ at-loop.loop.invariant.1 at_block.block.ensures c.before.before.e.given.1 in
-    (blocks-next _ _ _ at-loop.loop.invariant.0 turn.loop-test.true start.requires a.is, a.same)
+    let a = step_read _ _ _ at-loop.loop.invariant.1 at_block.block.ensures c.before.before.e.given.1 in
+    (blocks_next _ _ _ at-loop.loop.invariant.0 turn.loop-test.true start.requires a.is, a.same)
 
-returns-2 : tie.Need-returns-2 invariant-loop decreases-loop
-returns-2 c = blocks_end _ _ _ c.before.loop.invariant.0 c.before.loop.invariant.1 c.loop-test.false
+returns_2 : tie.Need-returns-2 invariant-loop decreases-loop
+returns_2 c = blocks_end _ _ _ c.before.loop.invariant.0 c.before.loop.invariant.1 c.loop-test.false
 
 pub blocks-spec : {M : Type 1} → statement M
 blocks-spec =
@@ -89,7 +89,7 @@ blocks-spec =
     invariant-loop
     decreases-loop
     tells-length-requires
-    loop-holds
+    loop_holds
     block-requires
     enum-known-m
     returns
@@ -98,7 +98,7 @@ blocks-spec =
     cast-places-2
     mul-places
     array-write-places
-    add-i
-    loop-less
-    loop-again
-    returns-2)
+    add_i
+    loop_less
+    loop_again
+    returns_2)

@@ -1,8 +1,8 @@
 -- Each answer is a path through the reader `head`.
 use mathlib.Core.Path.{refl}
 use borrow.Author.Rules.{rules}
-use Rattle.reading.specs.laws.AnswerSteps.{word_read, word-refused, step-read, step-refused, refuse-word, give-word}
-use Rattle.record.specs.laws.RegionsForgotten.{head-count-is, head-stop, head-rest}
+use Rattle.reading.specs.laws.AnswerSteps.{word_read, word_refused, step_read, step_refused, refuse_word, give_word}
+use Rattle.record.specs.laws.RegionsForgotten.{head_count_is, head_stop, head_rest}
 use Rattle.record.proofs.regions.read_head.Statement.{statement}
 use Rattle.record.proofs.regions.read_head.Tie as tie
 
@@ -26,23 +26,23 @@ enum-known-e c = search rules
 
 returns : tie.Need-returns
 returns c =
-    refuse-word _ _ _ (head-count-is _ _ (word-refused _ _ _ refl c.before.before.before.within.ensures c.before.m.given.1))
+    refuse_word _ _ _ (head_count_is _ _ (word_refused _ _ _ refl c.before.before.before.within.ensures c.before.m.given.1))
 
-returns-2 : tie.Need-returns-2
-returns-2 c =
+returns_2 : tie.Need-returns-2
+returns_2 c =
     let at_n = c.before.before.before.before.before in
     let at-within = at_n.before.before in
     let a = word_read _ _ _ refl at-within.within.ensures at_n.n.given.1 in
-    refuse-word _ _ _ (head-stop _ _ a.is (step-refused _ _ _ a.same c.before.before.before.after-count.ensures
+    refuse_word _ _ _ (head_stop _ _ a.is (step_refused _ _ _ a.same c.before.before.before.after_count.ensures
     c.before.m2.given.1))
 
-returns-3 : tie.Need-returns-3
-returns-3 c =
+returns_3 : tie.Need-returns-3
+returns_3 c =
     let at_n = c.before.before.before.before.before in
     let at-within = at_n.before.before in
     let a = word_read _ _ _ refl at-within.within.ensures at_n.n.given.1 in
-    let b = step-read _ _ _ a.same c.before.before.before.after-count.ensures c.before.e.given.1 in
-    give-word _ _ _ b.same (head-rest _ _ a.is b.is)
+    let b = step_read _ _ _ a.same c.before.before.before.after_count.ensures c.before.e.given.1 in
+    give_word _ _ _ b.same (head_rest _ _ a.is b.is)
 
 pub read-head-spec : {M : Type 1} → statement M
 read-head-spec =
@@ -55,5 +55,5 @@ read-head-spec =
     enum-known-m-2
     enum-known-e
     returns
-    returns-2
-    returns-3)
+    returns_2
+    returns_3)

@@ -1,9 +1,9 @@
 -- Each answer is a path through the reader `region`.
 use mathlib.Core.Path.{refl}
 use borrow.Author.Rules.{rules}
-use Rattle.reading.specs.laws.AnswerSteps.{step-read, step-refused}
-use Rattle.record.specs.laws.RegionsForgotten.{region-inputs, region-blocks}
-use Rattle.record.specs.laws.RegionSteps.{region-stop, region-whole}
+use Rattle.reading.specs.laws.AnswerSteps.{step_read, step_refused}
+use Rattle.record.specs.laws.RegionsForgotten.{region_inputs, region_blocks}
+use Rattle.record.specs.laws.RegionSteps.{region_stop, region_whole}
 use Rattle.record.proofs.regions.read_region.Statement.{statement}
 use Rattle.record.proofs.regions.read_region.Tie as tie
 
@@ -37,25 +37,25 @@ read-ending-requires c κs = search rules
 returns : tie.Need-returns
 returns c =
     let at-counted-types = c.before.before.before.before in
-    region-stop _ _ _ c.no-region.ensures (region-inputs _ _
-    (step-refused _ _ _ refl at-counted-types.counted-types.ensures c.before.before.m.given.1))
+    region_stop _ _ _ c.no_region.ensures (region_inputs _ _
+    (step_refused _ _ _ refl at-counted-types.counted-types.ensures c.before.before.m.given.1))
 
-returns-2 : tie.Need-returns-2
-returns-2 c =
+returns_2 : tie.Need-returns-2
+returns_2 c =
     let at-counted-blocks = c.before.before.before.before.before in
     let at_p = at-counted-blocks.before.before in
     let at-counted-types = at_p.before.before in
-    let a = step-read _ _ _ refl at-counted-types.counted-types.ensures at_p.p.given.1 in
-    region-stop _ _ _ c.no-region2.ensures (region-blocks _ _ a.is
-    (step-refused _ _ _ a.same at-counted-blocks.counted-blocks.ensures.step c.before.before.step.given.1))
+    let a = step_read _ _ _ refl at-counted-types.counted-types.ensures at_p.p.given.1 in
+    region_stop _ _ _ c.no-region2.ensures (region_blocks _ _ a.is
+    (step_refused _ _ _ a.same at-counted-blocks.counted-blocks.ensures.step c.before.before.step.given.1))
 
-returns-3 : tie.Need-returns-3
-returns-3 c =
+returns_3 : tie.Need-returns-3
+returns_3 c =
     let at-counted-blocks = c.before.before.before.before.before in
     let at_p = at-counted-blocks.before.before in
     let at-counted-types = at_p.before.before in
-    let a = step-read _ _ _ refl at-counted-types.counted-types.ensures at_p.p.given.1 in
-    region-whole _ _ at-counted-blocks.counted-blocks.result _ a at-counted-blocks.counted-blocks.ensures
+    let a = step_read _ _ _ refl at-counted-types.counted-types.ensures at_p.p.given.1 in
+    region_whole _ _ at-counted-blocks.counted-blocks.result _ a at-counted-blocks.counted-blocks.ensures
     c.before.before.step2.given.1 c.read_ending.ensures
 
 pub read-region-spec : {M : Type 1} → statement M
@@ -72,5 +72,5 @@ read-region-spec =
     enum-known-step-2
     read-ending-requires
     returns
-    returns-2
-    returns-3)
+    returns_2
+    returns_3)

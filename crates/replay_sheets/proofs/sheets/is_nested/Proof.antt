@@ -2,12 +2,12 @@ use mathlib.Core.Path.{◌≡◌, sym, ap, ◌∙◌}
 use native.Mathlib.Omega.{arith}
 use lib.ListN.{length, take, length-take}
 use lib.Seq.{length-take-le}
-use Rattle.vectors.specs.Parts.{hex-bytes}
-use Rattle.vectors.specs.Same.{same-list}
-use Rattle.vectors.proofs.Laws.{behind-within}
-use Rattle.replay_sheets.specs.Compared.{as-shown}
-use Rattle.replay_sheets.proofs.Nested.{lent_length, printed-never-full, printed-front, words-kept, behind-line, words-differ}
-use Rattle.replay_sheets.proofs.Nested.{text-decides}
+use Rattle.vectors.specs.Parts.{hex_bytes}
+use Rattle.vectors.specs.Same.{same_list}
+use Rattle.vectors.proofs.Laws.{behind_within}
+use Rattle.replay_sheets.specs.Compared.{as_shown}
+use Rattle.replay_sheets.proofs.Nested.{lent_length, printed_never_full, printed_front, words_kept, behind_line, words_differ}
+use Rattle.replay_sheets.proofs.Nested.{text_decides}
 use borrow.Author.Rules.{rules}
 use Rattle.replay_sheets.proofs.sheets.is_nested.Statement.{statement}
 use Rattle.replay_sheets.proofs.sheets.is_nested.Tie as tie
@@ -38,13 +38,13 @@ returns c =
     let at-print = c.before.before.before.before.before in
     let at-lend = at-print.before.before.before.before.before in
     let start = at-lend.before.before.before.before in
-    absurd (printed-never-full at-print.print.ensures at-lend.lend.ensures start.requires.1.1 c.enum_told.given.1)
+    absurd (printed_never_full at-print.print.ensures at-lend.lend.ensures start.requires.1.1 c.enum_told.given.1)
 
 behind-requires : tie.Need-behind-requires
 behind-requires c κs = search rules
 
 slice-aggregate-decode : tie.Need-slice-aggregate-decode
-slice-aggregate-decode c = sym (length-take-le _ _ (rw c.before.behind.ensures (behind-within _ _)))
+slice-aggregate-decode c = sym (length-take-le _ _ (rw c.before.behind.ensures (behind_within _ _)))
 
 decode-requires : tie.Need-decode-requires
 decode-requires c κs =
@@ -85,12 +85,12 @@ part-same-end c =
     let at-written = c.before.before.before.before.before.before.before.before.before.before.before in
     let at-print = at-written.before.before.before.before.before in
     let at-lend = at-print.before.before.before.before.before in
-    omega (arith, (printed-front at-print.print.ensures at-lend.lend.ensures at-written.written.given.1).within)
+    omega (arith, (printed_front at-print.print.ensures at-lend.lend.ensures at-written.written.given.1).within)
 
 sub-same-2 : tie.Need-overflow-sub-same-2
 sub-same-2 c =
     let at-behind = c.before.before.before.before.before.before.before.before.before.before in
-    rw at-behind.behind.ensures (behind-within _ _)
+    rw at-behind.behind.ensures (behind_within _ _)
 
 part-same-start-2 : tie.Need-slice-bounds-same-start-2
 part-same-start-2 c =
@@ -98,7 +98,7 @@ part-same-start-2 c =
     let at-print = at-behind.before.before.before.before.before.before.before in
     let at-lend = at-print.before.before.before.before.before in
     let start = at-lend.before.before.before.before in
-    omega (arith, at-behind.behind.ensures, behind-within 10 start.args.listed.now)
+    omega (arith, at-behind.behind.ensures, behind_within 10 start.args.listed.now)
 
 part-same-end-2 : tie.Need-slice-bounds-same-end-2
 part-same-end-2 c = search rules
@@ -109,8 +109,8 @@ same-requires c κs = search rules
 same-length-2 : tie.Need-same-length-2
 same-length-2 c = search rules
 
-returns-2 : tie.Need-returns-2
-returns-2 c =
+returns_2 : tie.Need-returns-2
+returns_2 c =
     let at-is-written = c.before.before.before.before.before in
     let at-decode = at-is-written.before.before.before.before in
     let at-behind = at-decode.before.before.before in
@@ -119,18 +119,18 @@ returns-2 c =
     let at-lend = at-print.before.before.before.before.before in
     let start = at-lend.before.before.before.before in
     let listed = start.args.listed.now in
-    let line = at-decode.decode.ensures.bytes ∙ ap (λ k. hex-bytes (take k listed)) at-behind.behind.ensures in
-    let front = printed-front at-print.print.ensures at-lend.lend.ensures at-written.written.given.1 in
-    let text = as-shown front c.same.ensures ∙ ap (same-list _) (behind-line listed at-behind.behind.ensures) in
-    text-decides _ listed (words-kept at-print.print.ensures at-lend.lend.ensures)
+    let line = at-decode.decode.ensures.bytes ∙ ap (λ k. hex_bytes (take k listed)) at-behind.behind.ensures in
+    let front = printed_front at-print.print.ensures at-lend.lend.ensures at-written.written.given.1 in
+    let text = as_shown front c.same.ensures ∙ ap (same_list _) (behind_line listed at-behind.behind.ensures) in
+    text_decides _ listed (words_kept at-print.print.ensures at-lend.lend.ensures)
     at-decode.decode.new.1.0 at-decode.decode.result line at-lend.lend.ensures at-is-written.is-written.ensures
     c.before.before.before.before.if1.true text
 
 same-length-3 : tie.Need-same-length-3
 same-length-3 c = search rules
 
-returns-3 : tie.Need-returns-3
-returns-3 c =
+returns_3 : tie.Need-returns-3
+returns_3 c =
     let at-is-written = c.before in
     let at-decode = at-is-written.before.before.before.before in
     let at-behind = at-decode.before.before.before in
@@ -138,8 +138,8 @@ returns-3 c =
     let at-lend = at-print.before.before.before.before.before in
     let start = at-lend.before.before.before.before in
     let listed = start.args.listed.now in
-    let line = at-decode.decode.ensures.bytes ∙ ap (λ k. hex-bytes (take k listed)) at-behind.behind.ensures in
-    words-differ _ listed (words-kept at-print.print.ensures at-lend.lend.ensures)
+    let line = at-decode.decode.ensures.bytes ∙ ap (λ k. hex_bytes (take k listed)) at-behind.behind.ensures in
+    words_differ _ listed (words_kept at-print.print.ensures at-lend.lend.ensures)
     at-decode.decode.new.1.0 at-decode.decode.result line at-lend.lend.ensures at-is-written.is-written.ensures
     c.if1.false
 
@@ -170,6 +170,6 @@ is-nested-spec =
     part-same-end-2
     same-requires
     same-length-2
-    returns-2
+    returns_2
     same-length-3
-    returns-3)
+    returns_3)

@@ -1,10 +1,10 @@
 use mathlib.Core.Path.{refl}
-use Rattle.replay_sheets.specs.Sheets.{lent-words}
+use Rattle.replay_sheets.specs.Sheets.{lent_words}
 use Rattle.replay_sheets.proofs.sheets.lend.Statement.{statement}
 use Rattle.replay_sheets.proofs.sheets.lend.Tie as tie
 
 returns : tie.Need-returns
-unfolding lent-words
+unfolding lent_words
 returns c = refl
 
 pub lend_spec : {M : Type 1} → statement M

@@ -1,4 +1,4 @@
-use Rattle.replay_sheets.proofs.Words.{as_lent, as-listed}
+use Rattle.replay_sheets.proofs.Words.{as_lent, as_listed}
 use borrow.Author.Rules.{rules}
 use Rattle.replay_sheets.proofs.sheets.word_at.Statement.{statement}
 use Rattle.replay_sheets.proofs.sheets.word_at.Tie as tie
@@ -41,11 +41,11 @@ shared-slice-read-word-4 c = search rules
 word-requires : tie.Need-word-requires
 word-requires c κs = search rules
 
-returns-2 : tie.Need-returns-2
-returns-2 c =
+returns_2 : tie.Need-returns-2
+returns_2 c =
     let at-if1 = c.before.before.before.before.before in
     let start = at-if1.before.before.before in
-    as-listed _ _ _ start.requires.0 start.args.i at-if1.if1.false c.word.ensures
+    as_listed _ _ _ start.requires.0 start.args.i at-if1.if1.false c.word.ensures
 
 pub word-at-spec : {M : Type 1} → statement M
 word-at-spec =
@@ -63,4 +63,4 @@ word-at-spec =
     add-word-3
     shared-slice-read-word-4
     word-requires
-    returns-2)
+    returns_2)

@@ -9,8 +9,8 @@ returns c = picked 1 _ c.if1.true
 head-requires : tie.Need-head-requires
 head-requires c κs = search rules
 
-returns-2 : tie.Need-returns-2
-returns-2 c = rw c.before.if1.false c.head.ensures
+returns_2 : tie.Need-returns-2
+returns_2 c = rw c.before.if1.false c.head.ensures
 
 pub twice-word-spec : {M : Type 1} → statement M
-twice-word-spec = tie.close (tie.spec returns head-requires returns-2)
+twice-word-spec = tie.close (tie.spec returns head-requires returns_2)

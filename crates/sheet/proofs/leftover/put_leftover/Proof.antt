@@ -1,4 +1,4 @@
-use Rattle.sheet.specs.laws.LinesShown.{leftover-put}
+use Rattle.sheet.specs.laws.LinesShown.{leftover_put}
 use borrow.Author.Rules.{rules}
 use Rattle.sheet.proofs.leftover.put_leftover.Statement.{statement}
 use Rattle.sheet.proofs.leftover.put_leftover.Tie as tie
@@ -24,7 +24,7 @@ returns c =
     let at_entry_lem = at-put-piece.before in
     let at-put-unclaimed = at_entry_lem.before.before.before.before in
     let at-put-sets = at-put-unclaimed.before.before.before.before in
-    leftover-put _ at_entry_lem.entry.ensures
+    leftover_put _ at_entry_lem.entry.ensures
     at-put-sets.put-sets.ensures
     at-put-unclaimed.put-unclaimed.ensures at-put-piece.put-piece.ensures
 

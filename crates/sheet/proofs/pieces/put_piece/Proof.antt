@@ -1,4 +1,4 @@
-use Rattle.sheet.specs.laws.RegionsLaws.{piece-put}
+use Rattle.sheet.specs.laws.RegionsLaws.{piece_put}
 use borrow.Author.Rules.{rules}
 use Rattle.sheet.proofs.pieces.put_piece.Statement.{statement}
 use Rattle.sheet.proofs.pieces.put_piece.Tie as tie
@@ -24,7 +24,7 @@ returns c =
     let none = line.before.before.before.before in
     let nodes = none.before.before.before.before in
     let list = nodes.before.before in
-    piece-put _ _ list.children.ensures nodes.put-nodes.ensures none.put_word.ensures line.put-region-line.ensures
+    piece_put _ _ list.children.ensures nodes.put-nodes.ensures none.put_word.ensures line.put-region-line.ensures
 
 pub put-piece-spec : {M : Type 1} → statement M
 put-piece-spec =

@@ -1,4 +1,4 @@
-use Rattle.sheet.specs.laws.RegionsLaws.{whole-put}
+use Rattle.sheet.specs.laws.RegionsLaws.{whole_put}
 use borrow.Author.Rules.{rules}
 use Rattle.sheet.proofs.pieces.put_whole.Statement.{statement}
 use Rattle.sheet.proofs.pieces.put_whole.Tie as tie
@@ -28,7 +28,7 @@ returns c =
     let nodes = outputs.before.before.before.before in
     let list = nodes.before.before in
     let entry = list.before in
-    whole-put _ _ list.children.ensures nodes.put-nodes.ensures entry.entry.ensures
+    whole_put _ _ list.children.ensures nodes.put-nodes.ensures entry.entry.ensures
     outputs.put-whole-outputs.ensures line.put-region-line.ensures
 
 pub put-whole-spec : {M : Type 1} → statement M

@@ -1,4 +1,4 @@
-use Rattle.sheet.specs.laws.RegionsLaws.{outputs-put}
+use Rattle.sheet.specs.laws.RegionsLaws.{outputs_put}
 use borrow.Author.Rules.{rules}
 use Rattle.sheet.proofs.pieces.put_whole_outputs.Statement.{statement}
 use Rattle.sheet.proofs.pieces.put_whole_outputs.Tie as tie
@@ -19,7 +19,7 @@ returns : tie.Need-returns
 returns c =
     let inputs = c.before.before in
     let bundle = inputs.before in
-    outputs-put _ _ bundle.before.set-start.ensures bundle.bundle-at.ensures inputs.put-target-inputs.ensures
+    outputs_put _ _ bundle.before.set_start.ensures bundle.bundle_at.ensures inputs.put-target-inputs.ensures
 
 pub put-whole-outputs-spec : {M : Type 1} → statement M
 put-whole-outputs-spec =

@@ -1,4 +1,4 @@
-use Rattle.sheet.specs.laws.WrittenLaws.{sheet-put}
+use Rattle.sheet.specs.laws.WrittenLaws.{sheet_put}
 use borrow.Author.Rules.{rules}
 use Rattle.sheet.proofs.whole.put_sheet.Statement.{statement}
 use Rattle.sheet.proofs.whole.put_sheet.Tie as tie
@@ -16,7 +16,7 @@ returns : tie.Need-returns
 returns c =
     let at-put-first-line = c.before.before in
     let at-put-lines = at-put-first-line.before.before.before.before in
-    sheet-put _ _ _ at-put-lines.put-lines.ensures
+    sheet_put _ _ _ at-put-lines.put-lines.ensures
     at-put-first-line.put-first-line.ensures
 
 pub put-sheet-spec : {M : Type 1} → statement M

@@ -2,14 +2,14 @@ use mathlib.Core.Path.{◌≡◌, sym}
 use Prim.Native.Nat.{◌≤◌, ◌+◌, ◌-◌}
 use native.Mathlib.Omega.{arith}
 use lib.ListN.{length, get_or}
-use Rattle.format.specs.References.{no-instr}
+use Rattle.format.specs.References.{no_instr}
 use Rattle.fields.specs.ByNumber.{block_of}
 use Rattle.sheet_words.specs.PutInFront.{Puts}
-use Rattle.sheet_words.specs.laws.PutInFrontLaws.{puts-as, puts_then}
+use Rattle.sheet_words.specs.laws.PutInFrontLaws.{puts_as, puts_then}
 use Rattle.sheet_words.specs.Parts.{OfState}
-use Rattle.sheet_words.specs.laws.Rows.{run, run-start, run-turn}
-use Rattle.sheet_words.specs.laws.PartLaws.{puts-from}
-use Rattle.sheet_blocks.specs.BlockParts.{item-part, block_listed}
+use Rattle.sheet_words.specs.laws.Rows.{run, run_start, run_turn}
+use Rattle.sheet_words.specs.laws.PartLaws.{puts_from}
+use Rattle.sheet_blocks.specs.BlockParts.{item_part, block_listed}
 use borrow.Author.Rules.{rules}
 use Rattle.sheet_blocks.proofs.blocks.put_block.Statement.{statement}
 use Rattle.sheet_blocks.proofs.blocks.put_block.Tie as tie
@@ -17,7 +17,7 @@ use Rattle.sheet_blocks.proofs.blocks.put_block.Tie as tie
 abbrev invariant-loop : tie.invariant-loop
 invariant-loop w out₀ r b node n first front₀ i₀ out front i =
     (i ≤ n) × (length out ≡ length out₀)
-    × OfState w (λ g s. Puts out₀ front₀ (run (λ j. item-part s r (first + j) (get_or (block_of g r b) j no-instr)) i (n - i)) out front)
+    × OfState w (λ g s. Puts out₀ front₀ (run (λ j. item_part s r (first + j) (get_or (block_of g r b) j no_instr)) i (n - i)) out front)
 
 abbrev decreases-loop : tie.decreases-loop
 decreases-loop w out₀ r b node n first front₀ i₀ out front i = i
@@ -28,8 +28,8 @@ block-length-requires c κs = search rules
 instructions-before-requires : tie.Need-instructions-before-requires invariant-loop decreases-loop
 instructions-before-requires c κs = search rules
 
-loop-holds : tie.Need-loop-init invariant-loop decreases-loop
-loop-holds c = (search rules, search rules, λ g s x. run-start _ _ _ _)
+loop_holds : tie.Need-loop-init invariant-loop decreases-loop
+loop_holds c = (search rules, search rules, λ g s x. run_start _ _ _ _)
 
 sub-i : tie.Need-overflow-sub-i invariant-loop decreases-loop
 sub-i c = search rules
@@ -43,11 +43,11 @@ add-put-item c = search rules
 put-item-requires : tie.Need-put-item-requires invariant-loop decreases-loop
 put-item-requires c κs = search rules
 
-loop-less : tie.Need-loop-smaller invariant-loop decreases-loop
-loop-less c = search rules
+loop_less : tie.Need-loop-smaller invariant-loop decreases-loop
+loop_less c = search rules
 
-loop-again : tie.Need-loop-preserved invariant-loop decreases-loop
-loop-again c =
+loop_again : tie.Need-loop-preserved invariant-loop decreases-loop
+loop_again c =
     let at-put = c.before.before in
     let at-loop = at-put.before.before.before in
     let start = at-loop.before.before.before.before in (
@@ -55,8 +55,8 @@ loop-again c =
       search rules,
       λ g s x.
           let is = block_of g start.args.r start.args.b in
-          let first = at-loop.before.instructions-before.result in
-          run-turn (λ j. item-part s start.args.r (first + j) (get_or is j no-instr)) _ _ at-put.before.before.loop-test.true
+          let first = at-loop.before.instructions_before.result in
+          run_turn (λ j. item_part s start.args.r (first + j) (get_or is j no_instr)) _ _ at-put.before.before.loop-test.true
           at-loop.loop.invariant.0 (at-loop.loop.invariant.2 g s x) (at-put.put_item.ensures g s x),
     )
 
@@ -81,13 +81,13 @@ returns c = λ g s x.
     let start = at_first.before.before.before in
     let stands = x.state.stands in
     let is = block_of g start.args.r start.args.b in
-    let size = at_first.before.block-length.ensures g stands in
-    let items = puts-from (item-part s start.args.r) no-instr at_first.instructions-before.result is size
+    let size = at_first.before.block_length.ensures g stands in
+    let items = puts_from (item_part s start.args.r) no_instr at_first.instructions_before.result is size
     at_count.before.before.loop-test.false (at-loop.loop.invariant.2 g s x) in
-    puts-as
+    puts_as
     (puts_then (puts_then (puts_then items (rw size at at_count.put_word.ensures)) at-node.put.ensures)
     c.before.before.put-word2.ensures)
-    (rw (at_first.instructions-before.ensures.0 g stands) (sym (block_listed s start.args.r start.args.node _ is)))
+    (rw (at_first.instructions_before.ensures.0 g stands) (sym (block_listed s start.args.r start.args.node _ is)))
 
 pub put-block-spec : {M : Type 1} → statement M
 put-block-spec =
@@ -97,13 +97,13 @@ put-block-spec =
     decreases-loop
     block-length-requires
     instructions-before-requires
-    loop-holds
+    loop_holds
     sub-i
     cast-put-item
     add-put-item
     put-item-requires
-    loop-less
-    loop-again
+    loop_less
+    loop_again
     put-word-requires
     put-requires
     put-word-requires-2

@@ -1,5 +1,5 @@
-use Rattle.fields.specs.ByNumber.{instr-of}
-use Rattle.sheet_blocks.specs.laws.RecordNames.{named-at, instr-named}
+use Rattle.fields.specs.ByNumber.{instr_of}
+use Rattle.sheet_blocks.specs.laws.RecordNames.{named_at, instr_named}
 use borrow.Author.Rules.{rules}
 use Rattle.sheet_blocks.proofs.blocks.put_read.Statement.{statement}
 use Rattle.sheet_blocks.proofs.blocks.put_read.Tie as tie
@@ -22,9 +22,9 @@ returns c = λ g s x h.
     let at_read = at-word.before.before in
     let start = at_read.before.before in
     let stands = x.state.stands in
-    let reads = (instr-of g start.args.r start.args.b start.args.i).reads in
-    let named = instr-named x.valid stands start.args.r start.args.b start.args.i in
-    rw (named-at reads named start.args.k h at_read.read.result at-word.value-word.ensures (at_read.read.ensures g stands))
+    let reads = (instr_of g start.args.r start.args.b start.args.i).reads in
+    let named = instr_named x.valid stands start.args.r start.args.b start.args.i in
+    rw (named_at reads named start.args.k h at_read.read.result at-word.value_word.ensures (at_read.read.ensures g stands))
     at (c.before.before.put-value.ensures g s x)
 
 pub put-read-spec : {M : Type 1} → statement M

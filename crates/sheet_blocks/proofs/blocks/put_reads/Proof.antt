@@ -3,12 +3,12 @@ use Prim.Native.Nat.{◌≤◌, ◌-◌}
 use native.Mathlib.Omega.{arith}
 use lib.ListN.{length, get_or}
 use Rattle.meaning.specs.Graph.{no_value}
-use Rattle.fields.specs.ByNumber.{instr-of}
+use Rattle.fields.specs.ByNumber.{instr_of}
 use Rattle.sheet_words.specs.PutInFront.{Puts}
-use Rattle.sheet_words.specs.laws.PutInFrontLaws.{puts-as}
-use Rattle.sheet_words.specs.Parts.{OfState, value-part}
-use Rattle.sheet_words.specs.laws.Rows.{run, run-start, run-turn}
-use Rattle.sheet_words.specs.laws.PartLaws.{puts-listed, values-counted}
+use Rattle.sheet_words.specs.laws.PutInFrontLaws.{puts_as}
+use Rattle.sheet_words.specs.Parts.{OfState, value_part}
+use Rattle.sheet_words.specs.laws.Rows.{run, run_start, run_turn}
+use Rattle.sheet_words.specs.laws.PartLaws.{puts_listed, values_counted}
 use borrow.Author.Rules.{rules}
 use Rattle.sheet_blocks.proofs.blocks.put_reads.Statement.{statement}
 use Rattle.sheet_blocks.proofs.blocks.put_reads.Tie as tie
@@ -16,14 +16,14 @@ use Rattle.sheet_blocks.proofs.blocks.put_reads.Tie as tie
 abbrev invariant-loop : tie.invariant-loop
 invariant-loop w out₀ r b i n front₀ k₀ out front k =
     (k ≤ n) × (length out ≡ length out₀)
-    × OfState w (λ g s. n ≡ length (instr-of g r b i).reads
-    → Puts out₀ front₀ (run (λ j. value-part s (get_or (instr-of g r b i).reads j no_value)) k (n - k)) out front)
+    × OfState w (λ g s. n ≡ length (instr_of g r b i).reads
+    → Puts out₀ front₀ (run (λ j. value_part s (get_or (instr_of g r b i).reads j no_value)) k (n - k)) out front)
 
 abbrev decreases-loop : tie.decreases-loop
 decreases-loop w out₀ r b i n front₀ k₀ out front k = k
 
-loop-holds : tie.Need-loop-init invariant-loop decreases-loop
-loop-holds c = (search rules, search rules, λ g s x size. run-start _ _ _ _)
+loop_holds : tie.Need-loop-init invariant-loop decreases-loop
+loop_holds c = (search rules, search rules, λ g s x size. run_start _ _ _ _)
 
 sub-k : tie.Need-overflow-sub-k invariant-loop decreases-loop
 sub-k c = search rules
@@ -31,20 +31,20 @@ sub-k c = search rules
 put-read-requires : tie.Need-put-read-requires invariant-loop decreases-loop
 put-read-requires c κs = search rules
 
-loop-less : tie.Need-loop-smaller invariant-loop decreases-loop
-loop-less c = search rules
+loop_less : tie.Need-loop-smaller invariant-loop decreases-loop
+loop_less c = search rules
 
-loop-again : tie.Need-loop-preserved invariant-loop decreases-loop
-loop-again c =
+loop_again : tie.Need-loop-preserved invariant-loop decreases-loop
+loop_again c =
     let at-put = c.before.before in
     let at-loop = at-put.before.before.before in
     let start = at-loop.before.before in (
       omega arith,
       search rules,
       λ g s x size.
-          let reads = (instr-of g start.args.r start.args.b start.args.i).reads in
-          run-turn (λ j. value-part s (get_or reads j no_value)) _ _ at-put.before.before.loop-test.true
-          at-loop.loop.invariant.0 (at-loop.loop.invariant.2 g s x size) (at-put.put-read.ensures g s x (omega arith)),
+          let reads = (instr_of g start.args.r start.args.b start.args.i).reads in
+          run_turn (λ j. value_part s (get_or reads j no_value)) _ _ at-put.before.before.loop-test.true
+          at-loop.loop.invariant.0 (at-loop.loop.invariant.2 g s x size) (at-put.put_read.ensures g s x (omega arith)),
     )
 
 put-word-requires : tie.Need-put-word-requires invariant-loop decreases-loop
@@ -58,11 +58,11 @@ returns c = λ g s x size.
     let at-put = c.before.before in
     let at-loop = at-put.before.before.before in
     let start = at-loop.before.before in
-    let reads = (instr-of g start.args.r start.args.b start.args.i).reads in
-    puts-as
-    (puts-listed (value-part s) no_value reads size at-put.before.before.loop-test.false (at-loop.loop.invariant.2 g s x size)
+    let reads = (instr_of g start.args.r start.args.b start.args.i).reads in
+    puts_as
+    (puts_listed (value_part s) no_value reads size at-put.before.before.loop-test.false (at-loop.loop.invariant.2 g s x size)
     at-put.put_word.ensures)
-    (sym (values-counted s reads))
+    (sym (values_counted s reads))
 
 pub put-reads-spec : {M : Type 1} → statement M
 put-reads-spec =
@@ -70,11 +70,11 @@ put-reads-spec =
     (tie.spec
     invariant-loop
     decreases-loop
-    loop-holds
+    loop_holds
     sub-k
     put-read-requires
-    loop-less
-    loop-again
+    loop_less
+    loop_again
     put-word-requires
     same_length
     returns)

@@ -1,5 +1,5 @@
-use Rattle.fields.specs.ByNumber.{end-values}
-use Rattle.sheet_blocks.specs.laws.RecordNames.{named-at, end-named}
+use Rattle.fields.specs.ByNumber.{end_values}
+use Rattle.sheet_blocks.specs.laws.RecordNames.{named_at, end_named}
 use borrow.Author.Rules.{rules}
 use Rattle.sheet_blocks.proofs.exits.put_end_value.Statement.{statement}
 use Rattle.sheet_blocks.proofs.exits.put_end_value.Tie as tie
@@ -22,8 +22,8 @@ returns c = λ g s x h.
     let at_value = at-word.before.before in
     let start = at_value.before.before in
     let stands = x.state.stands in
-    let named = end-named x.valid stands start.args.r in
-    rw (named-at (end-values g start.args.r) named start.args.k h at_value.value.result at-word.value-word.ensures
+    let named = end_named x.valid stands start.args.r in
+    rw (named_at (end_values g start.args.r) named start.args.k h at_value.value.result at-word.value_word.ensures
     (at_value.value.ensures g stands))
     at (c.before.before.put-value.ensures g s x)
 

@@ -3,12 +3,12 @@ use Prim.Native.Nat.{◌≤◌, ◌-◌}
 use native.Mathlib.Omega.{arith}
 use lib.ListN.{length, get_or}
 use Rattle.meaning.specs.Graph.{no_value}
-use Rattle.fields.specs.ByNumber.{end-values}
+use Rattle.fields.specs.ByNumber.{end_values}
 use Rattle.sheet_words.specs.PutInFront.{Puts}
-use Rattle.sheet_words.specs.laws.PutInFrontLaws.{puts-as}
-use Rattle.sheet_words.specs.Parts.{OfState, value-part}
-use Rattle.sheet_words.specs.laws.Rows.{run, run-start, run-turn}
-use Rattle.sheet_words.specs.laws.PartLaws.{puts-listed, values-counted}
+use Rattle.sheet_words.specs.laws.PutInFrontLaws.{puts_as}
+use Rattle.sheet_words.specs.Parts.{OfState, value_part}
+use Rattle.sheet_words.specs.laws.Rows.{run, run_start, run_turn}
+use Rattle.sheet_words.specs.laws.PartLaws.{puts_listed, values_counted}
 use borrow.Author.Rules.{rules}
 use Rattle.sheet_blocks.proofs.exits.put_end_values.Statement.{statement}
 use Rattle.sheet_blocks.proofs.exits.put_end_values.Tie as tie
@@ -16,7 +16,7 @@ use Rattle.sheet_blocks.proofs.exits.put_end_values.Tie as tie
 abbrev invariant-loop : tie.invariant-loop
 invariant-loop w out₀ r n front₀ k₀ out front k =
     (k ≤ n) × (length out ≡ length out₀)
-    × OfState w (λ g s. Puts out₀ front₀ (run (λ j. value-part s (get_or (end-values g r) j no_value)) k (n - k)) out front)
+    × OfState w (λ g s. Puts out₀ front₀ (run (λ j. value_part s (get_or (end_values g r) j no_value)) k (n - k)) out front)
 
 abbrev decreases-loop : tie.decreases-loop
 decreases-loop w out₀ r n front₀ k₀ out front k = k
@@ -24,8 +24,8 @@ decreases-loop w out₀ r n front₀ k₀ out front k = k
 value-count-requires : tie.Need-value-count-requires invariant-loop decreases-loop
 value-count-requires c κs = search rules
 
-loop-holds : tie.Need-loop-init invariant-loop decreases-loop
-loop-holds c = (search rules, search rules, λ g s x. run-start _ _ _ _)
+loop_holds : tie.Need-loop-init invariant-loop decreases-loop
+loop_holds c = (search rules, search rules, λ g s x. run_start _ _ _ _)
 
 sub-k : tie.Need-overflow-sub-k invariant-loop decreases-loop
 sub-k c = search rules
@@ -33,19 +33,19 @@ sub-k c = search rules
 put-end-value-requires : tie.Need-put-end-value-requires invariant-loop decreases-loop
 put-end-value-requires c κs = search rules
 
-loop-less : tie.Need-loop-smaller invariant-loop decreases-loop
-loop-less c = search rules
+loop_less : tie.Need-loop-smaller invariant-loop decreases-loop
+loop_less c = search rules
 
-loop-again : tie.Need-loop-preserved invariant-loop decreases-loop
-loop-again c =
+loop_again : tie.Need-loop-preserved invariant-loop decreases-loop
+loop_again c =
     let at-put = c.before.before in
     let at-loop = at-put.before.before.before in (
       omega arith,
       search rules,
       λ g s x.
           let size = at-loop.before.value-count.ensures g x.state.stands in
-          let values = end-values g at-loop.before.before.before.args.r in
-          run-turn (λ j. value-part s (get_or values j no_value)) _ _ at-put.before.before.loop-test.true at-loop.loop.invariant.0
+          let values = end_values g at-loop.before.before.before.args.r in
+          run_turn (λ j. value_part s (get_or values j no_value)) _ _ at-put.before.before.loop-test.true at-loop.loop.invariant.0
           (at-loop.loop.invariant.2 g s x) (at-put.put-end-value.ensures g s x (omega arith)),
     )
 
@@ -59,11 +59,11 @@ returns : tie.Need-returns invariant-loop decreases-loop
 returns c = λ g s x.
     let at-put = c.before.before in
     let at-loop = at-put.before.before.before in
-    let values = end-values g at-loop.before.before.before.args.r in
-    puts-as
-    (puts-listed (value-part s) no_value values (at-loop.before.value-count.ensures g x.state.stands)
+    let values = end_values g at-loop.before.before.before.args.r in
+    puts_as
+    (puts_listed (value_part s) no_value values (at-loop.before.value-count.ensures g x.state.stands)
     at-put.before.before.loop-test.false (at-loop.loop.invariant.2 g s x) at-put.put_word.ensures)
-    (sym (values-counted s values))
+    (sym (values_counted s values))
 
 pub put-end-values-spec : {M : Type 1} → statement M
 put-end-values-spec =
@@ -72,11 +72,11 @@ put-end-values-spec =
     invariant-loop
     decreases-loop
     value-count-requires
-    loop-holds
+    loop_holds
     sub-k
     put-end-value-requires
-    loop-less
-    loop-again
+    loop_less
+    loop_again
     put-word-requires
     same_length
     returns)

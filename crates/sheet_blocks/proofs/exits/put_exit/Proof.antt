@@ -1,6 +1,6 @@
 use mathlib.Core.Path.{sym}
-use Rattle.sheet_words.specs.laws.PutInFrontLaws.{puts-as, puts_then}
-use Rattle.sheet_blocks.specs.BlockParts.{exit-listed}
+use Rattle.sheet_words.specs.laws.PutInFrontLaws.{puts_as, puts_then}
+use Rattle.sheet_blocks.specs.BlockParts.{exit_listed}
 use borrow.Author.Rules.{rules}
 use Rattle.sheet_blocks.proofs.exits.put_exit.Statement.{statement}
 use Rattle.sheet_blocks.proofs.exits.put_exit.Tie as tie
@@ -24,10 +24,10 @@ returns c =
     let at-put-end-values = at-opcode.before.before.before in
     let at-args = at-put-end-values.before.before.before in
     λ g s x op vs e.
-    puts-as
+    puts_as
     (puts_then (rw e at (at-put-end-values.put-end-values.ensures g s x))
     (rw (at-opcode.opcode.ensures g x.state.stands op vs e) at at-put-three.put_three.ensures))
-    (sym (exit-listed s at-args.args.node op vs))
+    (sym (exit_listed s at-args.args.node op vs))
 
 pub put-exit-spec : {M : Type 1} → statement M
 put-exit-spec =

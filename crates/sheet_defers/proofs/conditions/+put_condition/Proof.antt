@@ -9,11 +9,11 @@ use borrow.Fn.PlainCycle.{Measures, is, falls, and}
 use Rattle.nesting.specs.Nesting.{LazyCond}
 use Rattle.state_shown.specs.Tables.{ShowsCond}
 use Rattle.sheet_words.specs.PutInFront.{Puts}
-use Rattle.sheet_words.specs.laws.PutInFrontLaws.{puts_then, puts-as}
-use Rattle.sheet_words.specs.laws.Rows.{run, run-start, run-turn, run-all}
-use Rattle.sheet_defers.specs.Conditions.{condition-part}
-use Rattle.sheet_defers.specs.laws.ConditionsLaws.{part-turn, merge-is}
-use Rattle.sheet_defers.specs.laws.ConditionsLaws.{low-condition, part_falls}
+use Rattle.sheet_words.specs.laws.PutInFrontLaws.{puts_then, puts_as}
+use Rattle.sheet_words.specs.laws.Rows.{run, run_start, run_turn, run_all}
+use Rattle.sheet_defers.specs.Conditions.{condition_part}
+use Rattle.sheet_defers.specs.laws.ConditionsLaws.{part_turn, merge_is}
+use Rattle.sheet_defers.specs.laws.ConditionsLaws.{low_condition, part_falls}
 use Rattle.sheet_defers.proofs.conditions.put_condition.Reads as reads
 use Rattle.sheet_defers.proofs.conditions.put_condition.Kinds as kinds
 use Rattle.sheet_defers.proofs.conditions.+put_condition.Lts-put_condition as lts
@@ -56,7 +56,7 @@ called t = (
 
 abbrev invariant-loop : lts.invariant-loop
 invariant-loop w out₀ c n to₀ j₀ out to j =
-    ((t : LazyCond) → ShowsCond w c t → Puts out₀ to₀ (run (condition-part t) j (n - j)) out to)
+    ((t : LazyCond) → ShowsCond w c t → Puts out₀ to₀ (run (condition_part t) j (n - j)) out to)
     × (j ≤ n)
     × (length out ≡ length out₀)
 
@@ -75,7 +75,7 @@ module _ (t : ℕ) where
       let put = c.before.before in
       let test = put.before.before in
       let start = test.before.before in
-      low-condition start.args.w.now test.if1.true put.put_word.ensures
+      low_condition start.args.w.now test.if1.true put.put_word.ensures
 
   cond-shape-requires : lts.Need-cond-shape-requires (called t) (at t) reads.Post invariant-loop decreases-loop
   cond-shape-requires c κs = search rules
@@ -83,8 +83,8 @@ module _ (t : ℕ) where
   shape-size-requires : lts.Need-shape-size-requires (called t) (at t) reads.Post invariant-loop decreases-loop
   shape-size-requires c κs = search rules
 
-  loop-holds : lts.Need-loop-init (called t) (at t) reads.Post invariant-loop decreases-loop
-  loop-holds c = (λ t x. run-start _ _ _ _, omega arith, refl)
+  loop_holds : lts.Need-loop-init (called t) (at t) reads.Post invariant-loop decreases-loop
+  loop_holds c = (λ t x. run_start _ _ _ _, omega arith, refl)
 
   sub-cond-part : lts.Need-overflow-sub-cond-part (called t) (at t) reads.Post invariant-loop decreases-loop
   sub-cond-part c = search rules
@@ -101,11 +101,11 @@ module _ (t : ℕ) where
   sub-j : lts.Need-overflow-sub-j (called t) (at t) reads.Post invariant-loop decreases-loop
   sub-j c = search rules
 
-  loop-less : lts.Need-loop-smaller (called t) (at t) reads.Post invariant-loop decreases-loop
-  loop-less c = search rules
+  loop_less : lts.Need-loop-smaller (called t) (at t) reads.Post invariant-loop decreases-loop
+  loop_less c = search rules
 
-  loop-again : lts.Need-loop-preserved (called t) (at t) reads.Post invariant-loop decreases-loop
-  loop-again c =
+  loop_again : lts.Need-loop-preserved (called t) (at t) reads.Post invariant-loop decreases-loop
+  loop_again c =
       let put = c.before.before in
       let part = put.before in
       let some = part.before.before in
@@ -114,8 +114,8 @@ module _ (t : ℕ) where
       let shape = size.before in
       let test = shape.before in
       let start = test.before.before in (
-        λ t x. run-turn _ _ _ some.loop-test.true turn.loop.invariant.1 (turn.loop.invariant.0 t x)
-            (part-turn start.args.w.now test.if1.false size.shape_size.ensures shape.cond-shape.ensures (omega arith)
+        λ t x. run_turn _ _ _ some.loop-test.true turn.loop.invariant.1 (turn.loop.invariant.0 t x)
+            (part_turn start.args.w.now test.if1.false size.shape_size.ensures shape.cond-shape.ensures (omega arith)
             part.cond-part.ensures put.put-condition.ensures x),
         omega arith,
         search rules,
@@ -130,8 +130,8 @@ module _ (t : ℕ) where
   same-length-2 : lts.Need-same-length-2 (called t) (at t) reads.Post invariant-loop decreases-loop
   same-length-2 c = search rules
 
-  returns-2 : lts.Need-returns-2 (called t) (at t) reads.Post invariant-loop decreases-loop
-  returns-2 c =
+  returns_2 : lts.Need-returns-2 (called t) (at t) reads.Post invariant-loop decreases-loop
+  returns_2 c =
       let put = c.before.before in
       let node = put.before in
       let end = node.before.before in
@@ -140,8 +140,8 @@ module _ (t : ℕ) where
       let shape = size.before in
       let test = shape.before in
       let start = test.before.before in
-      λ t x. puts-as (puts_then (run-all _ _ _ end.loop-test.false (turn.loop.invariant.0 t x)) put.put_three.ensures)
-      (merge-is start.args.w.now test.if1.false size.shape_size.ensures shape.cond-shape.ensures
+      λ t x. puts_as (puts_then (run_all _ _ _ end.loop-test.false (turn.loop.invariant.0 t x)) put.put_three.ensures)
+      (merge_is start.args.w.now test.if1.false size.shape_size.ensures shape.cond-shape.ensures
       node.cond-node.ensures x)
 
 pub +put-condition-spec : {M : Type 1} → statement M
@@ -151,14 +151,14 @@ pub +put-condition-spec : {M : Type 1} → statement M
     (returns t)
     (cond-shape-requires t)
     (shape-size-requires t)
-    (loop-holds t)
+    (loop_holds t)
     (sub-cond-part t)
     (cond-part-requires t)
     (put-condition-requires t)
     (sub-j t)
-    (loop-less t)
-    (loop-again t)
+    (loop_less t)
+    (loop_again t)
     (cond-node-requires t)
     (put-three-requires t)
     (same-length-2 t)
-    (returns-2 t)
+    (returns_2 t)

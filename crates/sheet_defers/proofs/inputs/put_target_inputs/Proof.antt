@@ -5,28 +5,28 @@ use lib.ListN.{length}
 use mathlib.Core.Path.{◌≡◌, refl}
 use borrow.Author.Rules.{rules}
 use Rattle.sheet_words.specs.PutInFront.{Puts}
-use Rattle.sheet_words.specs.laws.PutInFrontLaws.{puts_then, puts-as}
-use Rattle.sheet_words.specs.laws.Rows.{run, run-start, run-turn, run-all}
+use Rattle.sheet_words.specs.laws.PutInFrontLaws.{puts_then, puts_as}
+use Rattle.sheet_words.specs.laws.Rows.{run, run_start, run_turn, run_all}
 use Rattle.sheet_words.specs.Parts.{OfState}
-use Rattle.sheet_defers.specs.laws.Inputs.{input-part, inputs_are}
+use Rattle.sheet_defers.specs.laws.Inputs.{input_part, inputs_are}
 use Rattle.sheet_defers.proofs.inputs.put_target_inputs.Statement.{statement}
 use Rattle.sheet_defers.proofs.inputs.put_target_inputs.Tie as tie
 
 abbrev invariant-loop : tie.invariant-loop
-invariant-loop w out₀ p n to₀ k₀ out to k = OfState w (λ g s. Puts out₀ to₀ (run (input-part w s p.0) k (n - k)) out to) × (k ≤ n)
+invariant-loop w out₀ p n to₀ k₀ out to k = OfState w (λ g s. Puts out₀ to₀ (run (input_part w s p.0) k (n - k)) out to) × (k ≤ n)
     × (length out ≡ length out₀)
 
 abbrev decreases-loop : tie.decreases-loop
 decreases-loop w out₀ p n to₀ k₀ out to k = k
 
-target-requires : tie.Need-target-requires invariant-loop decreases-loop
-target-requires c κs = search rules
+target_requires : tie.Need-target-requires invariant-loop decreases-loop
+target_requires c κs = search rules
 
 target-input-count-requires : tie.Need-target-input-count-requires invariant-loop decreases-loop
 target-input-count-requires c κs = search rules
 
-loop-holds : tie.Need-loop-init invariant-loop decreases-loop
-loop-holds c = (λ g s x. run-start _ _ _ _, omega arith, refl)
+loop_holds : tie.Need-loop-init invariant-loop decreases-loop
+loop_holds c = (λ g s x. run_start _ _ _ _, omega arith, refl)
 
 sub-k : tie.Need-overflow-sub-k invariant-loop decreases-loop
 sub-k c = search rules
@@ -37,16 +37,16 @@ target-input-requires c κs = search rules
 put-value-requires : tie.Need-put-value-requires invariant-loop decreases-loop
 put-value-requires c κs = search rules
 
-loop-less : tie.Need-loop-smaller invariant-loop decreases-loop
-loop-less c = search rules
+loop_less : tie.Need-loop-smaller invariant-loop decreases-loop
+loop_less c = search rules
 
-loop-again : tie.Need-loop-preserved invariant-loop decreases-loop
-loop-again c =
+loop_again : tie.Need-loop-preserved invariant-loop decreases-loop
+loop_again c =
     let put = c.before.before in
     let word = put.before in
     let test = word.before.before in
     let turn = test.before in (
-      λ g s x. run-turn _ _ _ test.loop-test.true turn.loop.invariant.1 (turn.loop.invariant.0 g s x)
+      λ g s x. run_turn _ _ _ test.loop-test.true turn.loop.invariant.1 (turn.loop.invariant.0 g s x)
           (rw word.target-input.ensures at (put.put-value.ensures g s x)),
       omega arith,
       search rules,
@@ -65,7 +65,7 @@ returns c =
     let turn = end.before in
     let count = turn.before in
     let to = count.before in
-    λ g s x e shows. puts-as (puts_then (run-all _ _ _ end.loop-test.false (turn.loop.invariant.0 g s x)) counted.put_word.ensures)
+    λ g s x e shows. puts_as (puts_then (run_all _ _ _ end.loop-test.false (turn.loop.invariant.0 g s x)) counted.put_word.ensures)
     (inputs_are x shows to.target.ensures count.target-input-count.ensures)
 
 pub put-target-inputs-spec : {M : Type 1} → statement M
@@ -74,14 +74,14 @@ put-target-inputs-spec =
     (tie.spec
     invariant-loop
     decreases-loop
-    target-requires
+    target_requires
     target-input-count-requires
-    loop-holds
+    loop_holds
     sub-k
     target-input-requires
     put-value-requires
-    loop-less
-    loop-again
+    loop_less
+    loop_again
     put-word-requires
     same_length
     returns)

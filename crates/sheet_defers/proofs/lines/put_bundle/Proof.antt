@@ -1,8 +1,8 @@
 use mathlib.Core.Path.{◌∙◌}
 use borrow.Author.Rules.{rules}
 use Rattle.state_words.specs.laws.Edges.{edges_fit}
-use Rattle.sheet_words.specs.laws.PutInFrontLaws.{puts_then, puts-as}
-use Rattle.sheet_defers.specs.laws.DeferParts.{line-is, condition-is}
+use Rattle.sheet_words.specs.laws.PutInFrontLaws.{puts_then, puts_as}
+use Rattle.sheet_defers.specs.laws.DeferParts.{line_is, condition_is}
 use Rattle.sheet_defers.proofs.lines.put_bundle.Statement.{statement}
 use Rattle.sheet_defers.proofs.lines.put_bundle.Tie as tie
 
@@ -15,11 +15,11 @@ put-condition-requires c κs = search rules
 put-target-inputs-requires : tie.Need-put-target-inputs-requires
 put-target-inputs-requires c κs = search rules
 
-target-requires : tie.Need-target-requires
-target-requires c κs = search rules
+target_requires : tie.Need-target-requires
+target_requires c κs = search rules
 
-accumulated-count-requires : tie.Need-accumulated-count-requires
-accumulated-count-requires c κs = search rules
+accumulated_count_requires : tie.Need-accumulated-count-requires
+accumulated_count_requires c κs = search rules
 
 to-word-requires : tie.Need-to-word-requires
 to-word-requires c κs = search rules
@@ -44,15 +44,15 @@ returns c =
     let condition = inputs.before.before.before.before in
     let number = condition.before in
     let start = number.before.before.before in
-    λ g s x d e size shows. puts-as
+    λ g s x d e size shows. puts_as
     (puts_then
     (puts_then
-    (puts_then (condition.put-condition.ensures _ (condition-is shows s start.args.r d number.condition-in.ensures size))
+    (puts_then (condition.put-condition.ensures _ (condition_is shows s start.args.r d number.condition_in.ensures size))
     (inputs.put-target-inputs.ensures g s x e shows))
     three.put_three.ensures)
     lead.put_word.ensures)
-    (line-is shows s start.args.r d to.target.ensures
-    (word.to_word.ensures ∙ edges_fit _ count.accumulated-count.ensures.1 ∙ count.accumulated-count.ensures.0))
+    (line_is shows s start.args.r d to.target.ensures
+    (word.to_word.ensures ∙ edges_fit _ count.accumulated_count.ensures.1 ∙ count.accumulated_count.ensures.0))
 
 pub put-bundle-spec : {M : Type 1} → statement M
 put-bundle-spec =
@@ -61,8 +61,8 @@ put-bundle-spec =
     condition-in-requires
     put-condition-requires
     put-target-inputs-requires
-    target-requires
-    accumulated-count-requires
+    target_requires
+    accumulated_count_requires
     to-word-requires
     put-three-requires
     put-word-requires

@@ -19,12 +19,12 @@ kept-input-requires c κs = search rules
 input-requires : tie.Need-input-requires
 input-requires c κs = search rules
 
-returns-2 : tie.Need-returns-2
+returns_2 : tie.Need-returns-2
 unfolding kept_word
-returns-2 c = rw (c.before.before.before.if1.false, ← c.before.kept-input.ensures, ← c.before.before.kept-wrapper.ensures)
+returns_2 c = rw (c.before.before.before.if1.false, ← c.before.kept_input.ensures, ← c.before.before.kept_wrapper.ensures)
     c.input.ensures
 
 pub kept-value-spec : {M : Type 1} → statement M
 kept-value-spec =
     tie.close
-    (tie.spec kept-back-requires returns kept-wrapper-requires kept-input-requires input-requires returns-2)
+    (tie.spec kept-back-requires returns kept-wrapper-requires kept-input-requires input-requires returns_2)

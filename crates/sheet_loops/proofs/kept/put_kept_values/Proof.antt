@@ -5,26 +5,26 @@ use native.Mathlib.Omega.{arith}
 use lib.ListN.{length}
 use borrow.Author.Rules.{rules}
 use Rattle.state_shown.specs.Values.{value}
-use Rattle.sheet_words.specs.laws.PutInFrontLaws.{puts-as}
-use Rattle.sheet_words.specs.Parts.{OfState, value-part}
-use Rattle.state_lists.specs.laws.CellByCellLaws.{named-below}
-use Rattle.sheet_regions.specs.Kept.{kept_word, CellsPut, kept-cells, values-are}
-use Rattle.sheet_regions.specs.laws.KeptLaws.{cells-turn, cells-counted}
-use Rattle.sheet_regions.specs.laws.KeptLaws.{cells-start}
+use Rattle.sheet_words.specs.laws.PutInFrontLaws.{puts_as}
+use Rattle.sheet_words.specs.Parts.{OfState, value_part}
+use Rattle.state_lists.specs.laws.CellByCellLaws.{named_below}
+use Rattle.sheet_regions.specs.Kept.{kept_word, CellsPut, kept_cells, values_are}
+use Rattle.sheet_regions.specs.laws.KeptLaws.{cells_turn, cells_counted}
+use Rattle.sheet_regions.specs.laws.KeptLaws.{cells_start}
 use Rattle.sheet_loops.proofs.kept.put_kept_values.Statement.{statement}
 use Rattle.sheet_loops.proofs.kept.put_kept_values.Tie as tie
 
 abbrev invariant-loop : tie.invariant-loop
 invariant-loop w out₀ back to₀ n₀ h₀ out to n h =
-    OfState w (λ g s. CellsPut w (λ q. value-part s (value (kept_word w back q))) h₀.0 h.0 n out₀ to₀ out to)
+    OfState w (λ g s. CellsPut w (λ q. value_part s (value (kept_word w back q))) h₀.0 h.0 n out₀ to₀ out to)
     × (n + h.0 ≤ h₀.0)
     × (length out ≡ length out₀)
 
 abbrev decreases-loop : tie.decreases-loop
 decreases-loop w out₀ back to₀ n₀ h₀ out to n h = h.0
 
-loop-holds : tie.Need-loop-init invariant-loop decreases-loop
-loop-holds c = (λ g s x. cells-start _ _ _ _ _, omega arith, refl)
+loop_holds : tie.Need-loop-init invariant-loop decreases-loop
+loop_holds c = (λ g s x. cells_start _ _ _ _ _, omega arith, refl)
 
 kept-value-requires : tie.Need-kept-value-requires invariant-loop decreases-loop
 kept-value-requires c κs = search rules
@@ -38,20 +38,20 @@ add-n c = omega arith
 cell-before-requires : tie.Need-cell-before-requires invariant-loop decreases-loop
 cell-before-requires c κs = search rules
 
-loop-less : tie.Need-loop-smaller invariant-loop decreases-loop
-loop-less c =
+loop_less : tie.Need-loop-smaller invariant-loop decreases-loop
+loop_less c =
     let test = c.before.before.before.before.before.before in
-    named-below _ c.cell-before.ensures test.if1.true
+    named_below _ c.cell_before.ensures test.if1.true
 
-loop-again : tie.Need-loop-preserved invariant-loop decreases-loop
-loop-again c =
+loop_again : tie.Need-loop-preserved invariant-loop decreases-loop
+loop_again c =
     let put = c.before.before.before in
     let word = put.before in
     let test = word.before.before in
     let turn = test.before.before in (
-      λ g s x. cells-turn _ _ _ _ _ (turn.loop.invariant.0 g s x) test.if1.true
-          (rw word.kept-value.ensures at (put.put-value.ensures g s x)) c.cell-before.ensures refl,
-      omega (arith, named-below _ c.cell-before.ensures test.if1.true),
+      λ g s x. cells_turn _ _ _ _ _ (turn.loop.invariant.0 g s x) test.if1.true
+          (rw word.kept-value.ensures at (put.put-value.ensures g s x)) c.cell_before.ensures refl,
+      omega (arith, named_below _ c.cell_before.ensures test.if1.true),
       search rules,
     )
 
@@ -67,10 +67,10 @@ returns c =
     let end = put.before.before in
     let turn = end.before.before in
     let start = turn.before.before in
-    λ g s x r y keeps. puts-as
-    (cells-counted _ _ _ _ _ (turn.loop.invariant.0 g s x) end.if1.false (kept-cells start.args.w.now keeps).chain
+    λ g s x r y keeps. puts_as
+    (cells_counted _ _ _ _ _ (turn.loop.invariant.0 g s x) end.if1.false (kept_cells start.args.w.now keeps).chain
     put.put_word.ensures)
-    (values-are start.args.w.now y keeps s start.args.back)
+    (values_are start.args.w.now y keeps s start.args.back)
 
 pub put-kept-values-spec : {M : Type 1} → statement M
 put-kept-values-spec =
@@ -78,13 +78,13 @@ put-kept-values-spec =
     (tie.spec
     invariant-loop
     decreases-loop
-    loop-holds
+    loop_holds
     kept-value-requires
     put-value-requires
     add-n
     cell-before-requires
-    loop-less
-    loop-again
+    loop_less
+    loop_again
     put-word-requires
     same_length
     returns)

@@ -1,6 +1,6 @@
 use borrow.Author.Rules.{rules}
-use Rattle.sheet_regions.specs.RegionLine.{kept-types}
-use Rattle.sheet_regions.specs.laws.RegionLineLaws.{line-put}
+use Rattle.sheet_regions.specs.RegionLine.{kept_types}
+use Rattle.sheet_regions.specs.laws.RegionLineLaws.{line_put}
 use Rattle.sheet_loops.proofs.lines.put_body_line.Statement.{statement}
 use Rattle.sheet_loops.proofs.lines.put_body_line.Tie as tie
 
@@ -30,10 +30,10 @@ returns c =
     let kept = outputs.before.before in
     let header = kept.before in
     λ g s x y v ns nodes repeat keeps.
-    let here = rw (← header.loop-header.ensures, ← kept.loop-kept.ensures) at keeps in
-    rw header.loop-header.ensures at
-    (line-put s _ y.types ns y.outputs (outputs.put-kept-values.ensures g s x _ y here)
-    (line.put-region-line.ensures g s x y.types ns (kept-types y here) (rw body.loop-body.ensures nodes)))
+    let here = rw (← header.loop_header.ensures, ← kept.loop_kept.ensures) at keeps in
+    rw header.loop_header.ensures at
+    (line_put s _ y.types ns y.outputs (outputs.put-kept-values.ensures g s x _ y here)
+    (line.put-region-line.ensures g s x y.types ns (kept_types y here) (rw body.loop_body.ensures nodes)))
 
 pub put-body-line-spec : {M : Type 1} → statement M
 put-body-line-spec =

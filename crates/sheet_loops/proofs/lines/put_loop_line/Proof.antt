@@ -1,7 +1,7 @@
 use borrow.Author.Rules.{rules}
 use mathlib.Core.Path.{sym}
-use Rattle.sheet_words.specs.laws.PutInFrontLaws.{puts_then, puts-as}
-use Rattle.sheet_loops.specs.LoopParts.{loop-line}
+use Rattle.sheet_words.specs.laws.PutInFrontLaws.{puts_then, puts_as}
+use Rattle.sheet_loops.specs.LoopParts.{loop_line}
 use Rattle.sheet_loops.proofs.lines.put_loop_line.Statement.{statement}
 use Rattle.sheet_loops.proofs.lines.put_loop_line.Tie as tie
 
@@ -50,15 +50,15 @@ returns c =
     let again = header.before.before.before.before in
     let word = again.before in
     λ g s x y v ns nodes repeat keeps.
-    puts-as
+    puts_as
     (puts_then
     (puts_then
     (puts_then
     (puts_then (again.put-value.ensures g s x) body.put_word.ensures)
-    (initial.put-kept-values.ensures g s x _ y (rw (← kept.loop-kept.ensures) at keeps)))
+    (initial.put-kept-values.ensures g s x _ y (rw (← kept.loop_kept.ensures) at keeps)))
     number.put-word2.ensures)
     lead.put-word3.ensures)
-    (rw (word.loop-repeat.ensures, repeat, header.loop-header.ensures, node.loop-node.ensures) (sym (loop-line s _)))
+    (rw (word.loop_repeat.ensures, repeat, header.loop_header.ensures, node.loop_node.ensures) (sym (loop_line s _)))
 
 pub put-loop-line-spec : {M : Type 1} → statement M
 put-loop-line-spec =

@@ -1,4 +1,4 @@
-use Rattle.sheet_nodes.specs.Inside.{own_put, inner-put}
+use Rattle.sheet_nodes.specs.Inside.{own_put, inner_put}
 use borrow.Author.Rules.{rules}
 use Rattle.sheet_nodes.proofs.cell.put_cell_lines.Statement.{statement}
 use Rattle.sheet_nodes.proofs.cell.put_cell_lines.Tie as tie
@@ -30,10 +30,10 @@ put-inner-line-requires c κs = search rules
 same-length-2 : tie.Need-same-length-2
 same-length-2 c = search rules
 
-returns-2 : tie.Need-returns-2
-returns-2 c =
+returns_2 : tie.Need-returns-2
+returns_2 c =
     let d = c.before.before.before.before.before.before in
-    inner-put d.before.before.before.if1.false (rw d.before.before.inner-at.ensures at d.put-walked-lines.ensures)
+    inner_put d.before.before.before.if1.false (rw d.before.before.inner_at.ensures at d.put-walked-lines.ensures)
     c.before.before.put-inner-line.ensures
 
 pub put-cell-lines-spec : {M : Type 1} → statement M
@@ -49,4 +49,4 @@ put-cell-lines-spec =
     sub-put-inner-line
     put-inner-line-requires
     same-length-2
-    returns-2)
+    returns_2)

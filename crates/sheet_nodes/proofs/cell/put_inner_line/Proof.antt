@@ -1,4 +1,4 @@
-use Rattle.sheet_nodes.specs.laws.InsideLaws.{line-case, line-none}
+use Rattle.sheet_nodes.specs.laws.InsideLaws.{line_case, line_none}
 use borrow.Author.Rules.{rules}
 use Rattle.sheet_nodes.proofs.cell.put_inner_line.Statement.{statement}
 use Rattle.sheet_nodes.proofs.cell.put_inner_line.Tie as tie
@@ -24,12 +24,12 @@ same_length c = search rules
 returns : tie.Need-returns
 returns c =
     let d = c.before.before.before.before.before in
-    line-case _ _ d.before.before.before.cell-tag.ensures _ d.before.before.if1.true d.before.select-cases.ensures
-    d.case-cell.ensures
-    c.before.before.before.select-node.ensures c.before.before.put-case-line.ensures
+    line_case _ _ d.before.before.before.cell_tag.ensures _ d.before.before.if1.true d.before.select_cases.ensures
+    d.case_cell.ensures
+    c.before.before.before.select_node.ensures c.before.before.put-case-line.ensures
 
-returns-2 : tie.Need-returns-2
-returns-2 c = line-none _ _ c.before.cell-tag.ensures _ _ _ c.if1.false
+returns_2 : tie.Need-returns-2
+returns_2 c = line_none _ _ c.before.cell_tag.ensures _ _ _ c.if1.false
 
 pub put-inner-line-spec : {M : Type 1} → statement M
 put-inner-line-spec =
@@ -42,4 +42,4 @@ put-inner-line-spec =
     put-case-line-requires
     same_length
     returns
-    returns-2)
+    returns_2)

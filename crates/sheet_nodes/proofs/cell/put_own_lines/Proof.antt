@@ -1,4 +1,4 @@
-use Rattle.sheet_nodes.specs.laws.InsideLaws.{own-blocks, own-exit, own-select, own-loop, own-none}
+use Rattle.sheet_nodes.specs.laws.InsideLaws.{own_blocks, own_exit, own_select, own_loop, own_none}
 use borrow.Author.Rules.{rules}
 use Rattle.sheet_nodes.proofs.cell.put_own_lines.Statement.{statement}
 use Rattle.sheet_nodes.proofs.cell.put_own_lines.Tie as tie
@@ -18,7 +18,7 @@ same_length c = search rules
 returns : tie.Need-returns
 returns c =
     let d = c.before.before.before.before.before in
-    own-blocks _ _ d.before.cell-tag.ensures d.if1.true c.before.before.before.blocks-region.ensures
+    own_blocks _ _ d.before.cell_tag.ensures d.if1.true c.before.before.before.blocks_region.ensures
     c.before.before.put-blocks.ensures
 
 exit-node-requires : tie.Need-exit-node-requires
@@ -33,11 +33,11 @@ put-exit-requires c κs = search rules
 same-length-2 : tie.Need-same-length-2
 same-length-2 c = search rules
 
-returns-2 : tie.Need-returns-2
-returns-2 c =
+returns_2 : tie.Need-returns-2
+returns_2 c =
     let d = c.before.before.before.before in
-    own-exit _ _ d.before.before.before.before.cell-tag.ensures d.before.before.if2.true d.exit-node.ensures
-    c.before.before.before.exit-region.ensures
+    own_exit _ _ d.before.before.before.before.cell_tag.ensures d.before.before.if2.true d.exit_node.ensures
+    c.before.before.before.exit_region.ensures
     c.before.before.put-exit.ensures
 
 put-select-line-requires : tie.Need-put-select-line-requires
@@ -46,10 +46,10 @@ put-select-line-requires c κs = search rules
 same-length-3 : tie.Need-same-length-3
 same-length-3 c = search rules
 
-returns-3 : tie.Need-returns-3
-returns-3 c =
+returns_3 : tie.Need-returns-3
+returns_3 c =
     let d = c.before.before.before.before in
-    own-select _ _ d.before.before.before.cell-tag.ensures d.if3.true c.before.before.put-select-line.ensures
+    own_select _ _ d.before.before.before.cell_tag.ensures d.if3.true c.before.before.put-select-line.ensures
 
 put-loop-lines-requires : tie.Need-put-loop-lines-requires
 put-loop-lines-requires c κs = search rules
@@ -57,14 +57,14 @@ put-loop-lines-requires c κs = search rules
 same-length-4 : tie.Need-same-length-4
 same-length-4 c = search rules
 
-returns-4 : tie.Need-returns-4
-returns-4 c =
+returns_4 : tie.Need-returns-4
+returns_4 c =
     let d = c.before.before.before.before in
-    own-loop _ _ d.before.before.before.before.cell-tag.ensures d.if4.true c.before.before.put-loop-lines.ensures
+    own_loop _ _ d.before.before.before.before.cell_tag.ensures d.if4.true c.before.before.put-loop-lines.ensures
 
-returns-5 : tie.Need-returns-5
-returns-5 c =
-    own-none _ _ c.before.before.before.before.cell-tag.ensures _ _ c.before.before.before.if1.false
+returns_5 : tie.Need-returns-5
+returns_5 c =
+    own_none _ _ c.before.before.before.before.cell_tag.ensures _ _ c.before.before.before.if1.false
     c.before.before.if2.false c.before.if3.false
     c.if4.false
 
@@ -81,11 +81,11 @@ put-own-lines-spec =
     exit-region-requires
     put-exit-requires
     same-length-2
-    returns-2
+    returns_2
     put-select-line-requires
     same-length-3
-    returns-3
+    returns_3
     put-loop-lines-requires
     same-length-4
-    returns-4
-    returns-5)
+    returns_4
+    returns_5)

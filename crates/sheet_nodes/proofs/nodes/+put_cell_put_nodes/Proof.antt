@@ -4,10 +4,10 @@ use mathlib.Core.Path.{◌≡◌, refl}
 use lib.ListN.{length}
 use native.Mathlib.Omega.{arith}
 use borrow.Author.Rules.{rules}
-use Rattle.state_lists.specs.laws.CellByCellLaws.{before-below}
+use Rattle.state_lists.specs.laws.CellByCellLaws.{before_below}
 use Rattle.sheet_nodes.specs.Walk.{PutsBehind}
 use Rattle.sheet_nodes.specs.Inside.{InsidePut}
-use Rattle.sheet_nodes.specs.laws.InsideLaws.{walked-below, inside-start, inside-turn, cell-put}
+use Rattle.sheet_nodes.specs.laws.InsideLaws.{walked_below, inside_start, inside_turn, cell_put}
 use Rattle.sheet_nodes.specs.laws.WalkLaws.{walk_start, walk_turn, walk_end}
 use Prim.Native.Nat.{ℕ, ◌+◌, ◌*◌, ◌<◌, ◌≤◌}
 use borrow.Fn.Kinds.{In}
@@ -80,7 +80,7 @@ put-cell-inner-total-requires t c κs = search rules
 
 put-cell-loop-holds : (t : ℕ) → put-cell-lts.Need-loop-init
     (put-cell-called t) (put-cell-at t) put-cell.Post put-cell-Inv-loop put-cell-μ-loop
-put-cell-loop-holds t c = (inside-start _ _ c.inner-total.ensures _ _, omega arith, refl)
+put-cell-loop-holds t c = (inside_start _ _ c.inner-total.ensures _ _, omega arith, refl)
 
 put-cell-sub-inner-at : (t : ℕ) → put-cell-lts.Need-overflow-sub-inner-at
     (put-cell-called t) (put-cell-at t) put-cell.Post put-cell-Inv-loop put-cell-μ-loop
@@ -99,7 +99,7 @@ put-cell-put-nodes-requires : (t : ℕ) → put-cell-lts.Need-put-nodes-requires
 put-cell-put-nodes-requires t c κs =
     let d = c.before.before.before.before.before.before.before in
     let e = c.before.before in
-    (omega (arith, d.requires.0, walked-below _ _ _ e.inner-at.ensures c.before.walked-list.ensures d.requires.1), tt)
+    (omega (arith, d.requires.0, walked_below _ _ _ e.inner_at.ensures c.before.walked_list.ensures d.requires.1), tt)
 
 put-cell-put-cell-lines-requires : (t : ℕ) → put-cell-lts.Need-put-cell-lines-requires
     (put-cell-called t) (put-cell-at t) put-cell.Post put-cell-Inv-loop put-cell-μ-loop
@@ -119,8 +119,8 @@ put-cell-loop-again t c =
     let at_inner = at-walked.before in
     let at_test = at_inner.before in
     let at-loop = at_test.before in (
-      inside-turn _ _ at-loop.before.inner-total.ensures _ at_test.loop-test.true at-loop.loop.invariant.1
-          at-loop.loop.invariant.0 at_inner.inner-at.ensures at-walked.walked-list.ensures
+      inside_turn _ _ at-loop.before.inner-total.ensures _ at_test.loop-test.true at-loop.loop.invariant.1
+          at-loop.loop.invariant.0 at_inner.inner_at.ensures at-walked.walked_list.ensures
           c.before.before.before.before.before.before.put-nodes.ensures
           c.before.before.put-cell-lines.ensures,
       omega (arith, at-loop.loop.invariant.1),
@@ -138,7 +138,7 @@ put-cell-same-length t c = search rules
 put-cell-returns : (t : ℕ) → put-cell-lts.Need-returns (put-cell-called t) (put-cell-at t) put-cell.Post put-cell-Inv-loop put-cell-μ-loop
 put-cell-returns t c =
     let at-loop = c.before.before.before.before.before in
-    cell-put _ _ at-loop.before.inner-total.ensures _ c.before.before.before.before.loop-test.false at-loop.loop.invariant.0
+    cell_put _ _ at-loop.before.inner-total.ensures _ c.before.before.before.before.loop-test.false at-loop.loop.invariant.0
     c.before.before.put-cell-lines2.ensures
 
 abbrev put-nodes-Inv-loop : put-nodes-lts.invariant-loop
@@ -165,15 +165,15 @@ put-nodes-loop-less : (t : ℕ) → put-nodes-lts.Need-loop-smaller
     (put-nodes-called t) (put-nodes-at t) put-nodes.Post put-nodes-Inv-loop put-nodes-μ-loop
 put-nodes-loop-less t c =
     let d = c.before.before.before.before.before in
-    before-below _ c.list-before.ensures d.if1.true
+    before_below _ c.list_before.ensures d.if1.true
 
 put-nodes-loop-again : (t : ℕ) → put-nodes-lts.Need-loop-preserved
     (put-nodes-called t) (put-nodes-at t) put-nodes.Post put-nodes-Inv-loop put-nodes-μ-loop
 put-nodes-loop-again t c =
     let d = c.before.before.before.before.before in (
       walk_turn _ _ _ d.if1.true d.before.before.loop.invariant.0 c.before.before.before.put-cell.ensures
-          c.list-before.ensures,
-      omega (arith, before-below _ c.list-before.ensures d.if1.true, d.before.before.loop.invariant.1),
+          c.list_before.ensures,
+      omega (arith, before_below _ c.list_before.ensures d.if1.true, d.before.before.loop.invariant.1),
       search rules,
     )
 

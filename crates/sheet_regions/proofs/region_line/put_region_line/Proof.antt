@@ -1,4 +1,4 @@
-use Rattle.sheet_regions.specs.laws.RegionLineLaws.{front-put}
+use Rattle.sheet_regions.specs.laws.RegionLineLaws.{front_put}
 use borrow.Author.Rules.{rules}
 use Rattle.sheet_regions.proofs.region_line.put_region_line.Statement.{statement}
 use Rattle.sheet_regions.proofs.region_line.put_region_line.Tie as tie
@@ -24,7 +24,7 @@ returns c =
     let number = lead.before.before.before.before in
     let types = number.before.before.before.before in
     let kids = types.before.before.before.before in
-    front-put _ _ _ _ kids.put-kids.ensures types.put-types.ensures number.put_word.ensures lead.put-word2.ensures
+    front_put _ _ _ _ kids.put-kids.ensures types.put-types.ensures number.put_word.ensures lead.put-word2.ensures
 
 pub put-region-line-spec : {M : Type 1} → statement M
 put-region-line-spec =

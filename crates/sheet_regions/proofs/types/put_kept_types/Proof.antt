@@ -6,26 +6,26 @@ use native.Mathlib.Omega.{arith}
 use lib.ListN.{length}
 use borrow.Author.Rules.{rules}
 use Rattle.nesting.specs.Nesting.{plain}
-use Rattle.sheet_words.specs.laws.PutInFrontLaws.{puts-as}
+use Rattle.sheet_words.specs.laws.PutInFrontLaws.{puts_as}
 use Rattle.sheet_words.specs.Parts.{OfState}
-use Rattle.state_lists.specs.laws.CellByCellLaws.{named-below}
-use Rattle.sheet_regions.specs.Kept.{kept-type, CellsPut, kept-cells, types_are}
-use Rattle.sheet_regions.specs.laws.KeptLaws.{cells-turn, cells-counted}
-use Rattle.sheet_regions.specs.laws.KeptLaws.{cells-start}
+use Rattle.state_lists.specs.laws.CellByCellLaws.{named_below}
+use Rattle.sheet_regions.specs.Kept.{kept_type, CellsPut, kept_cells, types_are}
+use Rattle.sheet_regions.specs.laws.KeptLaws.{cells_turn, cells_counted}
+use Rattle.sheet_regions.specs.laws.KeptLaws.{cells_start}
 use Rattle.sheet_regions.proofs.types.put_kept_types.Statement.{statement}
 use Rattle.sheet_regions.proofs.types.put_kept_types.Tie as tie
 
 abbrev invariant-loop : tie.invariant-loop
 invariant-loop w out₀ r to₀ n₀ h₀ out to n h =
-    OfState w (λ g s. CellsPut w (λ q. plain (kept-type g w r q ∷ [])) h₀.0 h.0 n out₀ to₀ out to)
+    OfState w (λ g s. CellsPut w (λ q. plain (kept_type g w r q ∷ [])) h₀.0 h.0 n out₀ to₀ out to)
     × (n + h.0 ≤ h₀.0)
     × (length out ≡ length out₀)
 
 abbrev decreases-loop : tie.decreases-loop
 decreases-loop w out₀ r to₀ n₀ h₀ out to n h = h.0
 
-loop-holds : tie.Need-loop-init invariant-loop decreases-loop
-loop-holds c = (λ g s x. cells-start _ _ _ _ _, omega arith, refl)
+loop_holds : tie.Need-loop-init invariant-loop decreases-loop
+loop_holds c = (λ g s x. cells_start _ _ _ _ _, omega arith, refl)
 
 kept-input-requires : tie.Need-kept-input-requires invariant-loop decreases-loop
 kept-input-requires c κs = search rules
@@ -42,22 +42,22 @@ add-n c = omega arith
 cell-before-requires : tie.Need-cell-before-requires invariant-loop decreases-loop
 cell-before-requires c κs = search rules
 
-loop-less : tie.Need-loop-smaller invariant-loop decreases-loop
-loop-less c =
+loop_less : tie.Need-loop-smaller invariant-loop decreases-loop
+loop_less c =
     let test = c.before.before.before.before.before.before.before in
-    named-below _ c.cell-before.ensures test.if1.true
+    named_below _ c.cell_before.ensures test.if1.true
 
-loop-again : tie.Need-loop-preserved invariant-loop decreases-loop
-loop-again c =
+loop_again : tie.Need-loop-preserved invariant-loop decreases-loop
+loop_again c =
     let put = c.before.before.before in
     let type = put.before in
     let number = type.before in
     let test = number.before.before in
     let turn = test.before.before in (
-      λ g s x. cells-turn _ _ _ _ _ (turn.loop.invariant.0 g s x) test.if1.true
-          (rw (type.input-type.ensures g x.state.stands, number.kept-input.ensures) at put.put_word.ensures)
-          c.cell-before.ensures refl,
-      omega (arith, named-below _ c.cell-before.ensures test.if1.true),
+      λ g s x. cells_turn _ _ _ _ _ (turn.loop.invariant.0 g s x) test.if1.true
+          (rw (type.input-type.ensures g x.state.stands, number.kept_input.ensures) at put.put_word.ensures)
+          c.cell_before.ensures refl,
+      omega (arith, named_below _ c.cell_before.ensures test.if1.true),
       search rules,
     )
 
@@ -73,8 +73,8 @@ returns c =
     let end = put.before.before in
     let turn = end.before.before in
     let start = turn.before.before in
-    λ g s x y keeps. puts-as
-    (cells-counted _ _ _ _ _ (turn.loop.invariant.0 g s x) end.if1.false (kept-cells start.args.w.now keeps).chain
+    λ g s x y keeps. puts_as
+    (cells_counted _ _ _ _ _ (turn.loop.invariant.0 g s x) end.if1.false (kept_cells start.args.w.now keeps).chain
     put.put-word2.ensures)
     (types_are start.args.w.now y keeps)
 
@@ -84,14 +84,14 @@ put-kept-types-spec =
     (tie.spec
     invariant-loop
     decreases-loop
-    loop-holds
+    loop_holds
     kept-input-requires
     input-type-requires
     put-word-requires
     add-n
     cell-before-requires
-    loop-less
-    loop-again
+    loop_less
+    loop_again
     put-word-requires-2
     same_length
     returns)

@@ -3,13 +3,13 @@ use mathlib.Core.Logic.{⊎_elim}
 use Prim.Native.Nat.{◌≤◌, ◌-◌}
 use native.Mathlib.Omega.{arith}
 use borrow.Author.Rules.{rules}
-use Rattle.sheet_words.specs.Outputs.{node-times}
-use Rattle.sheet_words.specs.laws.OutputsLaws.{one_more, no_more, all-counted}
+use Rattle.sheet_words.specs.Outputs.{node_times}
+use Rattle.sheet_words.specs.laws.OutputsLaws.{one_more, no_more, all_counted}
 use Rattle.sheet_words.proofs.value.place_among.Statement.{statement}
 use Rattle.sheet_words.proofs.value.place_among.Tie as tie
 
 abbrev invariant-loop : tie.invariant-loop
-invariant-loop w node o end sum₀ i₀ sum i = (sum ≡ node-times w node i) × (i ≤ end) × (sum ≤ i)
+invariant-loop w node o end sum₀ i₀ sum i = (sum ≡ node_times w node i) × (i ≤ end) × (sum ≤ i)
 
 abbrev decreases-loop : tie.decreases-loop
 decreases-loop w node o end sum₀ i₀ sum i = end - i
@@ -20,9 +20,9 @@ output-count-requires c κs = search rules
 least-requires : tie.Need-least-requires invariant-loop decreases-loop
 least-requires c κs = search rules
 
-loop-holds : tie.Need-loop-init invariant-loop decreases-loop
-unfolding node-times
-loop-holds c = (refl, omega arith, omega arith)
+loop_holds : tie.Need-loop-init invariant-loop decreases-loop
+unfolding node_times
+loop_holds c = (refl, omega arith, omega arith)
 
 output-node-requires : tie.Need-output-node-requires invariant-loop decreases-loop
 output-node-requires c κs = search rules
@@ -30,17 +30,17 @@ output-node-requires c κs = search rules
 add-sum : tie.Need-overflow-add-sum invariant-loop decreases-loop
 add-sum c = omega arith
 
-add-i : tie.Need-overflow-add-i invariant-loop decreases-loop
-add-i c = omega arith
+add_i : tie.Need-overflow-add-i invariant-loop decreases-loop
+add_i c = omega arith
 
-loop-less : tie.Need-loop-smaller invariant-loop decreases-loop
-loop-less c = omega arith
+loop_less : tie.Need-loop-smaller invariant-loop decreases-loop
+loop_less c = omega arith
 
-loop-again : tie.Need-loop-preserved invariant-loop decreases-loop
-loop-again c =
+loop_again : tie.Need-loop-preserved invariant-loop decreases-loop
+loop_again c =
     let turn = c.before.before.before in
     let args = turn.before.before.before.args in
-    let read = c.before.output-node.ensures in (
+    let read = c.before.output_node.ensures in (
       ⊎_elim
           (λ x. one_more args.w.now args.node turn.loop.i turn.loop.invariant.0 read x.0.taken x.1)
           (λ x. no_more args.w.now args.node turn.loop.i turn.loop.invariant.0 read x.0.left x.1)
@@ -54,7 +54,7 @@ returns c =
     let turn = c.before in
     let args = turn.before.before.before.args in
     rw (← turn.before.before.output-count.ensures, ← turn.before.least.ensures)
-    (all-counted args.w.now args.node turn.loop.invariant.0 turn.loop.invariant.1 c.loop-test.false)
+    (all_counted args.w.now args.node turn.loop.invariant.0 turn.loop.invariant.1 c.loop-test.false)
 
 pub place-among-spec : {M : Type 1} → statement M
 place-among-spec =
@@ -64,10 +64,10 @@ place-among-spec =
     decreases-loop
     output-count-requires
     least-requires
-    loop-holds
+    loop_holds
     output-node-requires
     add-sum
-    add-i
-    loop-less
-    loop-again
+    add_i
+    loop_less
+    loop_again
     returns)

@@ -29,12 +29,12 @@ put-three-requires-2 c κs = search rules
 same-length-2 : tie.Need-same-length-2
 same-length-2 c = search rules
 
-returns-2 : tie.Need-returns-2
-returns-2 c =
+returns_2 : tie.Need-returns-2
+returns_2 c =
     let at-put-three = c.before.before in
     let at-place-among = at-put-three.before.before in
     let at-node-of = at-place-among.before.before in
-    rw (← at-node-of.node_of.ensures, ← at-place-among.place-among.ensures) at-put-three.put-three2.ensures
+    rw (← at-node-of.node_of.ensures, ← at-place-among.place_among.ensures) at-put-three.put-three2.ensures
 
 pub put-output-spec : {M : Type 1} → statement M
 put-output-spec =
@@ -47,4 +47,4 @@ put-output-spec =
     place-among-requires
     put-three-requires-2
     same-length-2
-    returns-2)
+    returns_2)

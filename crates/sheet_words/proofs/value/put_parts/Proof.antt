@@ -1,5 +1,5 @@
 use borrow.Author.Tests.{eq-eqb, ne_eqb}
-use Rattle.sheet_words.specs.Outputs.{value-words}
+use Rattle.sheet_words.specs.Outputs.{value_words}
 use borrow.Author.Rules.{rules}
 use Rattle.sheet_words.proofs.value.put_parts.Statement.{statement}
 use Rattle.sheet_words.proofs.value.put_parts.Tie as tie
@@ -14,10 +14,10 @@ same_length : tie.Need-same-length
 same_length c = search rules
 
 returns : tie.Need-returns
-unfolding value-words
+unfolding value_words
 returns c =
     let told = c.before.before.before.before in
-    rw (← told.before.before.parts-of.ensures, eq-eqb told.before.before.parts-of.result.kind 3 told.if1.true)
+    rw (← told.before.before.parts_of.ensures, eq-eqb told.before.before.parts_of.result.kind 3 told.if1.true)
     c.before.before.put-output.ensures
 
 put-three-requires : tie.Need-put-three-requires
@@ -26,11 +26,11 @@ put-three-requires c κs = search rules
 same-length-2 : tie.Need-same-length-2
 same-length-2 c = search rules
 
-returns-2 : tie.Need-returns-2
-unfolding value-words
-returns-2 c =
+returns_2 : tie.Need-returns-2
+unfolding value_words
+returns_2 c =
     let told = c.before.before.before.before in
-    rw (← told.before.before.parts-of.ensures, ne_eqb told.before.before.parts-of.result.kind 3 told.if1.false)
+    rw (← told.before.before.parts_of.ensures, ne_eqb told.before.before.parts_of.result.kind 3 told.if1.false)
     c.before.before.put_three.ensures
 
 pub put-parts-spec : {M : Type 1} → statement M
@@ -43,4 +43,4 @@ put-parts-spec =
     returns
     put-three-requires
     same-length-2
-    returns-2)
+    returns_2)

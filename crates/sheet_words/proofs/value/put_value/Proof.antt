@@ -1,5 +1,5 @@
-use Rattle.sheet_words.specs.laws.PutInFrontLaws.{puts-as, puts-noted}
-use Rattle.sheet_words.specs.laws.ValueShown.{value-shown}
+use Rattle.sheet_words.specs.laws.PutInFrontLaws.{puts_as, puts_noted}
+use Rattle.sheet_words.specs.laws.ValueShown.{value_shown}
 use borrow.Author.Rules.{rules}
 use Rattle.sheet_words.proofs.value.put_value.Statement.{statement}
 use Rattle.sheet_words.proofs.value.put_value.Tie as tie
@@ -19,8 +19,8 @@ same_length c = search rules
 returns : tie.Need-returns
 returns c = λ g s x.
     let told = c.before.before.before.before in
-    puts-as (puts-noted told.note.ensures c.before.before.put-parts.ensures)
-    (rw told.before.look_up.ensures (value-shown x told.before.before.before.args.v))
+    puts_as (puts_noted told.note.ensures c.before.before.put-parts.ensures)
+    (rw told.before.look_up.ensures (value_shown x told.before.before.before.args.v))
 
 pub put-value-spec : {M : Type 1} → statement M
 put-value-spec =

@@ -26,17 +26,17 @@ enum-known-x-7 c = search rules
 returns : tie.Need-returns
 returns c = rw c.before.x.given.1
 
-returns-2 : tie.Need-returns-2
-returns-2 c = rw c.before.x2.given.1
+returns_2 : tie.Need-returns-2
+returns_2 c = rw c.before.x2.given.1
 
-returns-3 : tie.Need-returns-3
-returns-3 c = rw c.before.x3.given.1
+returns_3 : tie.Need-returns-3
+returns_3 c = rw c.before.x3.given.1
 
-returns-4 : tie.Need-returns-4
-returns-4 c = rw c.before.x4.given.1
+returns_4 : tie.Need-returns-4
+returns_4 c = rw c.before.x4.given.1
 
-returns-5 : tie.Need-returns-5
-returns-5 c = rw c.before.x5.given.1
+returns_5 : tie.Need-returns-5
+returns_5 c = rw c.before.x5.given.1
 
 returns-6 : tie.Need-returns-6
 returns-6 c = rw c.before.x6.given.1
@@ -56,9 +56,9 @@ cell-words-spec =
     enum-known-x-6
     enum-known-x-7
     returns
-    returns-2
-    returns-3
-    returns-4
-    returns-5
+    returns_2
+    returns_3
+    returns_4
+    returns_5
     returns-6
     returns-7)

@@ -8,9 +8,9 @@ returns : tie.Need-returns
 unfolding earlier
 returns c = picked _ _ (lt-ltb _ _ c.if1.true)
 
-returns-2 : tie.Need-returns-2
+returns_2 : tie.Need-returns-2
 unfolding earlier
-returns-2 c = passed_over _ _ (le-ltb _ _ c.if1.false)
+returns_2 c = passed_over _ _ (le-ltb _ _ c.if1.false)
 
 pub earlier-spec : {M : Type 1} → statement M
-earlier-spec = tie.close (tie.spec returns returns-2)
+earlier-spec = tie.close (tie.spec returns returns_2)

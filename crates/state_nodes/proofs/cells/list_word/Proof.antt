@@ -12,7 +12,7 @@ earlier-requires : tie.Need-earlier-requires
 earlier-requires c κs = search rules
 
 returns : tie.Need-returns
-returns c = c.earlier.ensures ∙ ap (λ (p : ℕ). earlier p c.before.before.args.h.0) c.before.cell-word.ensures
+returns c = c.earlier.ensures ∙ ap (λ (p : ℕ). earlier p c.before.before.args.h.0) c.before.cell_word.ensures
 
 pub list-word-spec : {M : Type 1} → statement M
 list-word-spec = tie.close (tie.spec cell-word-requires earlier-requires returns)

@@ -1,4 +1,4 @@
-use Rattle.state_nodes.specs.NodeTables.{earlier-part}
+use Rattle.state_nodes.specs.NodeTables.{earlier_part}
 use mathlib.Core.Path.{◌∙◌}
 use Rattle.meaning.specs.facts.Tests.{picked, passed_over}
 use borrow.Author.Tests.{lt-ltb, le-ltb}
@@ -13,12 +13,12 @@ cond-word-requires : tie.Need-cond-word-requires
 cond-word-requires c κs = search rules
 
 returns : tie.Need-returns
-unfolding earlier-part
+unfolding earlier_part
 returns c = c.before.cond-word.ensures ∙ picked _ _ (rw c.before.cond-word.ensures at (lt-ltb _ _ c.if1.true))
 
-returns-2 : tie.Need-returns-2
-unfolding earlier-part
-returns-2 c = passed_over _ _ (rw c.before.cond-word.ensures at (le-ltb _ _ c.if1.false))
+returns_2 : tie.Need-returns-2
+unfolding earlier_part
+returns_2 c = passed_over _ _ (rw c.before.cond-word.ensures at (le-ltb _ _ c.if1.false))
 
 pub cond-part-spec : {M : Type 1} → statement M
-cond-part-spec = tie.close (tie.spec add-cond-word cond-word-requires returns returns-2)
+cond-part-spec = tie.close (tie.spec add-cond-word cond-word-requires returns returns_2)

@@ -9,7 +9,7 @@ select-scrutinee-requires : tie.Need-select-scrutinee-requires
 select-scrutinee-requires c κs = search rules
 
 returns : tie.Need-returns
-returns c = rw c.before.cond-select.ensures at c.select-scrutinee.ensures
+returns c = rw c.before.cond-select.ensures at c.select_scrutinee.ensures
 
 pub cond-scrutinee-spec : {M : Type 1} → statement M
 cond-scrutinee-spec = tie.close (tie.spec cond-select-requires select-scrutinee-requires returns)

@@ -1,6 +1,6 @@
-use Rattle.state_words.specs.laws.Stored.{one-and-run}
-use Rattle.state_nodes.specs.NodeTables.{merge-defined, merges-full}
-use Rattle.state_words.specs.Sections.{stored-all-at}
+use Rattle.state_words.specs.laws.Stored.{one_and_run}
+use Rattle.state_nodes.specs.NodeTables.{merge_defined, merges_full}
+use Rattle.state_words.specs.Sections.{stored_all_at}
 use mathlib.Core.Path.{refl}
 use native.Mathlib.Omega.{arith}
 use borrow.Author.Rules.{rules}
@@ -40,12 +40,12 @@ returns c =
     let at-put = at-put-all.before.before.before in
     let at-if = at-put.before.before in
     let at_head = at-if.before in
-    merge-defined at_head.head.ensures at-if.if1.true refl
-    (rw (one-and-run _ _ _ _ _ _ at-put.put.ensures at-put-all.put_all_lem.ensures) at c.set-head.ensures)
+    merge_defined at_head.head.ensures at-if.if1.true refl
+    (rw (one_and_run _ _ _ _ _ _ at-put.put.ensures at-put-all.put_all_lem.ensures) at c.set-head.ensures)
 
-returns-2 : tie.Need-returns-2
-unfolding stored-all-at
-returns-2 c = merges-full (omega (arith, c.before.head.ensures)) refl
+returns_2 : tie.Need-returns-2
+unfolding stored_all_at
+returns_2 c = merges_full (omega (arith, c.before.head.ensures)) refl
 
 pub define-merge-spec : {M : Type 1} → statement M
 define-merge-spec =
@@ -61,4 +61,4 @@ define-merge-spec =
     add-set-head
     set-head-requires
     returns
-    returns-2)
+    returns_2)

@@ -7,13 +7,13 @@ returns : tie.Need-returns
 unfolding shape_size
 returns c = simp (eq-eqb _ _ c.if1.true)
 
-returns-2 : tie.Need-returns-2
+returns_2 : tie.Need-returns-2
 unfolding shape_size
-returns-2 c = simp (ne_eqb _ _ c.before.if1.false, lt-ltb _ _ c.if2.true)
+returns_2 c = simp (ne_eqb _ _ c.before.if1.false, lt-ltb _ _ c.if2.true)
 
-returns-3 : tie.Need-returns-3
+returns_3 : tie.Need-returns-3
 unfolding shape_size
-returns-3 c = simp (ne_eqb _ _ c.before.if1.false, le-ltb _ _ c.if2.false)
+returns_3 c = simp (ne_eqb _ _ c.before.if1.false, le-ltb _ _ c.if2.false)
 
 pub shape-size-spec : {M : Type 1} → statement M
-shape-size-spec = tie.close (tie.spec returns returns-2 returns-3)
+shape-size-spec = tie.close (tie.spec returns returns_2 returns_3)

@@ -1,6 +1,6 @@
-use Rattle.state_words.specs.laws.Stored.{two-and-run}
-use Rattle.state_nodes.specs.NodeTables.{output-defined, outputs-full}
-use Rattle.state_words.specs.Sections.{stored-all-at}
+use Rattle.state_words.specs.laws.Stored.{two_and_run}
+use Rattle.state_nodes.specs.NodeTables.{output_defined, outputs_full}
+use Rattle.state_words.specs.Sections.{stored_all_at}
 use mathlib.Core.Path.{refl}
 use native.Mathlib.Omega.{arith}
 use borrow.Author.Rules.{rules}
@@ -44,14 +44,14 @@ returns c =
     let at-put-2 = at-put.before.before in
     let at-if = at-put-2.before.before in
     let at-output-count = at-if.before in
-    output-defined at-output-count.output-count.ensures
+    output_defined at-output-count.output-count.ensures
     at-if.if1.true
-    (rw (two-and-run _ _ _ _ _ _ _ at-put-2.put.ensures
+    (rw (two_and_run _ _ _ _ _ _ _ at-put-2.put.ensures
     at-put.put2.ensures at-put-all.put_all_lem.ensures) at c.set-head.ensures)
 
-returns-2 : tie.Need-returns-2
-unfolding stored-all-at
-returns-2 c = outputs-full (omega (arith, c.before.output-count.ensures)) refl
+returns_2 : tie.Need-returns-2
+unfolding stored_all_at
+returns_2 c = outputs_full (omega (arith, c.before.output-count.ensures)) refl
 
 pub define-output-spec : {M : Type 1} → statement M
 define-output-spec =
@@ -68,4 +68,4 @@ define-output-spec =
     add-set-head
     set-head-requires
     returns
-    returns-2)
+    returns_2)

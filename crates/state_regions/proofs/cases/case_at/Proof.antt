@@ -22,10 +22,10 @@ case-length-requires c κs = search rules
 
 returns : tie.Need-returns
 returns c = λ i. record {
-  kind = c.before.before.before.before.before.case-kind.ensures i;
-  origin = c.before.before.before.before.case-origin.ensures i;
-  body = c.before.before.before.case-body.ensures i;
-  children = record { 0 = c.before.before.case-children.ensures i };
+  kind = c.before.before.before.before.before.case_kind.ensures i;
+  origin = c.before.before.before.before.case_origin.ensures i;
+  body = c.before.before.before.case_body.ensures i;
+  children = record { 0 = c.before.before.case_children.ensures i };
   start = record { 0 = c.before.case-start.ensures i };
   length = c.case-length.ensures i;
 }

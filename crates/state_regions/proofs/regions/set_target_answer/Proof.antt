@@ -1,4 +1,4 @@
-use Rattle.state_regions.specs.RegionTables.{target-answer-stored}
+use Rattle.state_regions.specs.RegionTables.{target_answer_stored}
 use mathlib.Core.Path.{◌∙◌}
 use Rattle.meaning.specs.facts.Tests.{picked, passed_over}
 use borrow.Author.Tests.{lt-ltb, le-ltb}
@@ -16,12 +16,12 @@ put-requires : tie.Need-put-requires
 put-requires c κs = search rules
 
 returns : tie.Need-returns
-unfolding target-answer-stored
+unfolding target_answer_stored
 returns c = c.put.ensures ∙ picked _ _ (lt-ltb _ _ c.before.before.if1.true)
 
-returns-2 : tie.Need-returns-2
-unfolding target-answer-stored
-returns-2 c = passed_over _ _ (le-ltb _ _ c.if1.false)
+returns_2 : tie.Need-returns-2
+unfolding target_answer_stored
+returns_2 c = passed_over _ _ (le-ltb _ _ c.if1.false)
 
 pub set-target-answer-spec : {M : Type 1} → statement M
-set-target-answer-spec = tie.close (tie.spec mul-put add-put put-requires returns returns-2)
+set-target-answer-spec = tie.close (tie.spec mul-put add-put put-requires returns returns_2)

@@ -1,4 +1,4 @@
-use Rattle.state_sets.specs.SetTables.{input-stored}
+use Rattle.state_sets.specs.SetTables.{input_stored}
 use mathlib.Core.Path.{◌∙◌}
 use Rattle.meaning.specs.facts.Tests.{picked, passed_over}
 use borrow.Author.Tests.{lt-ltb, le-ltb}
@@ -13,12 +13,12 @@ set-word-requires : tie.Need-set-word-requires
 set-word-requires c κs = search rules
 
 returns : tie.Need-returns
-unfolding input-stored
+unfolding input_stored
 returns c = c.set_word.ensures ∙ picked _ _ (lt-ltb _ _ c.before.before.if1.true)
 
-returns-2 : tie.Need-returns-2
-unfolding input-stored
-returns-2 c = passed_over _ _ (le-ltb _ _ c.if1.false)
+returns_2 : tie.Need-returns-2
+unfolding input_stored
+returns_2 c = passed_over _ _ (le-ltb _ _ c.if1.false)
 
 pub set-target-input-spec : {M : Type 1} → statement M
-set-target-input-spec = tie.close (tie.spec add-set-word set-word-requires returns returns-2)
+set-target-input-spec = tie.close (tie.spec add-set-word set-word-requires returns returns_2)

@@ -12,9 +12,9 @@ returns : tie.Need-returns
 unfolding slot
 returns c = picked _ _ (lt-ltb _ _ c.if1.true)
 
-returns-2 : tie.Need-returns-2
+returns_2 : tie.Need-returns-2
 unfolding slot
-returns-2 c = passed_over _ _ (le-ltb _ _ c.if1.false)
+returns_2 c = passed_over _ _ (le-ltb _ _ c.if1.false)
 
 pub slot-spec : {M : Type 1} → statement M
-slot-spec = tie.close (tie.spec mul-t3 returns returns-2)
+slot-spec = tie.close (tie.spec mul-t3 returns returns_2)

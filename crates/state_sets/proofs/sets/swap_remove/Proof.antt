@@ -1,16 +1,16 @@
-use Rattle.state_sets.specs.SetTables.{swap-removed}
+use Rattle.state_sets.specs.SetTables.{swap_removed}
 use mathlib.Core.Path.{◌∙◌}
-use Rattle.meaning.specs.facts.Tests.{picked, passed_over, is-equal, not_equal}
+use Rattle.meaning.specs.facts.Tests.{picked, passed_over, is_equal, not_equal}
 use borrow.Author.Rules.{rules}
 use Rattle.state_sets.proofs.sets.swap_remove.Statement.{statement}
 use Rattle.state_sets.proofs.sets.swap_remove.Tie as tie
 
-set-length-requires : tie.Need-set-length-requires
-set-length-requires c κs = search rules
+set_length_requires : tie.Need-set-length-requires
+set_length_requires c κs = search rules
 
 returns : tie.Need-returns
-unfolding swap-removed
-returns c = picked _ _ (is-equal c.if1.true c.before.set-length.ensures)
+unfolding swap_removed
+returns c = picked _ _ (is_equal c.if1.true c.before.set_length.ensures)
 
 set-start-requires : tie.Need-set-start-requires
 set-start-requires c κs = search rules
@@ -30,9 +30,9 @@ sub-put-set-length c = search rules
 put-set-length-requires : tie.Need-put-set-length-requires
 put-set-length-requires c κs = search rules
 
-returns-2 : tie.Need-returns-2
-unfolding swap-removed
-returns-2 c =
+returns_2 : tie.Need-returns-2
+unfolding swap_removed
+returns_2 c =
     let at-copy-bundle = c.before.before in
     let at-bundle-at = at-copy-bundle.before.before in
     let at-set-start = at-bundle-at.before in
@@ -40,18 +40,18 @@ returns-2 c =
     let at-set-length = at-if.before in
     (rw (
       at-copy-bundle.copy-bundle.ensures,
-      at-bundle-at.bundle-at.ensures,
-      at-set-start.set-start.ensures,
-      at-set-length.set-length.ensures,
+      at-bundle-at.bundle_at.ensures,
+      at-set-start.set_start.ensures,
+      at-set-length.set_length.ensures,
     ) at c.put-set-length.ensures)
     ∙ passed_over _ _ (not_equal at-if.if1.false
-    at-set-length.set-length.ensures)
+    at-set-length.set_length.ensures)
 
 pub swap-remove-spec : {M : Type 1} → statement M
 swap-remove-spec =
     tie.close
     (tie.spec
-    set-length-requires
+    set_length_requires
     returns
     set-start-requires
     sub-bundle-at
@@ -59,4 +59,4 @@ swap-remove-spec =
     copy-bundle-requires
     sub-put-set-length
     put-set-length-requires
-    returns-2)
+    returns_2)

@@ -20,10 +20,10 @@ unfolding attempted
 returns c = (rw c.before.before.before.head.ensures at c.set-head.ensures)
     ∙ picked _ _ (rw c.before.before.before.head.ensures at (lt-ltb _ _ c.before.before.if1.true))
 
-returns-2 : tie.Need-returns-2
+returns_2 : tie.Need-returns-2
 unfolding attempted
-returns-2 c = passed_over _ _ (rw c.before.head.ensures at (le-ltb _ _ c.if1.false))
+returns_2 c = passed_over _ _ (rw c.before.head.ensures at (le-ltb _ _ c.if1.false))
 
 pub count-attempt-spec : {M : Type 1} → statement M
 count-attempt-spec =
-    tie.close (tie.spec head-requires add-set-head set-head-requires returns returns-2)
+    tie.close (tie.spec head-requires add-set-head set-head-requires returns returns_2)

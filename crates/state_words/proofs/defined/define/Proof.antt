@@ -17,8 +17,8 @@ set-head-requires c κs = search rules
 returns : tie.Need-returns
 returns c = defined c.before.before.before.head.ensures c.before.before.if1.true c.set-head.ensures
 
-returns-2 : tie.Need-returns-2
-returns-2 c = full (omega (arith, c.before.head.ensures)) refl
+returns_2 : tie.Need-returns-2
+returns_2 c = full (omega (arith, c.before.head.ensures)) refl
 
 pub define-spec : {M : Type 1} → statement M
-define-spec = tie.close (tie.spec head-requires add-set-head set-head-requires returns returns-2)
+define-spec = tie.close (tie.spec head-requires add-set-head set-head-requires returns returns_2)

@@ -1,5 +1,5 @@
-use Rattle.state_words.specs.laws.Stored.{run-turn, run-stop, run-start}
-use Rattle.state_words.specs.Sections.{stored-all-at}
+use Rattle.state_words.specs.laws.Stored.{run_turn, run_stop, run_start}
+use Rattle.state_words.specs.Sections.{stored_all_at}
 use lib.ListN.{length, drop}
 use native.Mathlib.Omega.{arith}
 use Prim.Native.Nat.{◌+◌, ◌-◌, ◌≤◌}
@@ -11,13 +11,13 @@ use Rattle.state_words.proofs.sections.put_all.Tie as tie
 abbrev invariant-loop : tie.invariant-loop
 invariant-loop w₀ section i xs j₀ w j =
     (j ≤ length xs) ×
-    (stored-all-at section.from section.words w (i + j) (drop j xs) ≡ stored-all-at section.from section.words w₀ i xs)
+    (stored_all_at section.from section.words w (i + j) (drop j xs) ≡ stored_all_at section.from section.words w₀ i xs)
 
 abbrev decreases-loop : tie.decreases-loop
 decreases-loop w₀ section i xs j₀ w j = length xs - j
 
-loop-holds : tie.Need-loop-init invariant-loop decreases-loop
-loop-holds c = (omega arith, run-start _ _ _ _ _)
+loop_holds : tie.Need-loop-init invariant-loop decreases-loop
+loop_holds c = (omega arith, run_start _ _ _ _ _)
 
 add-put : tie.Need-overflow-add-put invariant-loop decreases-loop
 add-put c = search rules
@@ -31,21 +31,21 @@ shared-slice-read-put c = search rules
 put-requires : tie.Need-put-requires invariant-loop decreases-loop
 put-requires c κs = search rules
 
-add-j : tie.Need-overflow-add-j invariant-loop decreases-loop
-add-j c = search rules
+add_j : tie.Need-overflow-add-j invariant-loop decreases-loop
+add_j c = search rules
 
-loop-less : tie.Need-loop-smaller invariant-loop decreases-loop
-loop-less c = search rules
+loop_less : tie.Need-loop-smaller invariant-loop decreases-loop
+loop_less c = search rules
 
-loop-again : tie.Need-loop-preserved invariant-loop decreases-loop
-loop-again c = (
+loop_again : tie.Need-loop-preserved invariant-loop decreases-loop
+loop_again c = (
   omega arith,
   rw c.put.ensures
-      (sym (run-turn _ _ _ _ _ _ c.before.before.before.loop-test.true) ∙ c.before.before.before.before.loop.invariant.1),
+      (sym (run_turn _ _ _ _ _ _ c.before.before.before.loop-test.true) ∙ c.before.before.before.before.loop.invariant.1),
 )
 
 returns : tie.Need-returns invariant-loop decreases-loop
-returns c = sym (run-stop _ _ _ _ _ _ c.loop-test.false) ∙ c.before.loop.invariant.1
+returns c = sym (run_stop _ _ _ _ _ _ c.loop-test.false) ∙ c.before.loop.invariant.1
 
 pub put-all-spec : {M : Type 1} → statement M
 put-all-spec =
@@ -53,12 +53,12 @@ put-all-spec =
     (tie.spec
     invariant-loop
     decreases-loop
-    loop-holds
+    loop_holds
     add-put
     mul-put
     shared-slice-read-put
     put-requires
-    add-j
-    loop-less
-    loop-again
+    add_j
+    loop_less
+    loop_again
     returns)

@@ -7,9 +7,9 @@ returns : tie.Need-returns
 unfolding const_word
 returns c = simp (lt-ltb _ _ c.if1.true)
 
-returns-2 : tie.Need-returns-2
+returns_2 : tie.Need-returns-2
 unfolding const_word
-returns-2 c = simp (le-ltb _ _ c.if1.false)
+returns_2 c = simp (le-ltb _ _ c.if1.false)
 
 pub constant-spec : {M : Type 1} → statement M
-constant-spec = tie.close (tie.spec returns returns-2)
+constant-spec = tie.close (tie.spec returns returns_2)

@@ -7,9 +7,9 @@ returns : tie.Need-returns
 unfolding is_held
 returns c = simp (lt-ltb _ _ c.if1.true)
 
-returns-2 : tie.Need-returns-2
+returns_2 : tie.Need-returns-2
 unfolding is_held
-returns-2 c = simp (le-ltb _ _ c.if1.false)
+returns_2 c = simp (le-ltb _ _ c.if1.false)
 
 pub is-held-spec : {M : Type 1} → statement M
-is-held-spec = tie.close (tie.spec returns returns-2)
+is-held-spec = tie.close (tie.spec returns returns_2)

@@ -1,4 +1,4 @@
-use Rattle.state_words.specs.Values.{parts-of}
+use Rattle.state_words.specs.Values.{parts_of}
 use mathlib.Core.Path.{◌∙◌}
 use borrow.Author.Tests.{lt-ltb, le-ltb}
 use borrow.Author.Rules.{rules}
@@ -9,7 +9,7 @@ shown-requires : tie.Need-shown-requires
 shown-requires c κs = search rules
 
 returns : tie.Need-returns
-unfolding parts-of
+unfolding parts_of
 returns c =
     c.shown.ensures
     ∙ rw (lt-ltb _ _ c.before.if1.true)
@@ -17,9 +17,9 @@ returns c =
 shown-requires-2 : tie.Need-shown-requires-2
 shown-requires-2 c κs = search rules
 
-returns-2 : tie.Need-returns-2
-unfolding parts-of
-returns-2 c =
+returns_2 : tie.Need-returns-2
+unfolding parts_of
+returns_2 c =
     c.shown2.ensures
     ∙ rw (
       le-ltb _ _ c.before.before.if1.false,
@@ -29,9 +29,9 @@ returns-2 c =
 shown-requires-3 : tie.Need-shown-requires-3
 shown-requires-3 c κs = search rules
 
-returns-3 : tie.Need-returns-3
-unfolding parts-of
-returns-3 c =
+returns_3 : tie.Need-returns-3
+unfolding parts_of
+returns_3 c =
     c.shown3.ensures
     ∙ rw (
       le-ltb _ _ c.before.before.before.if1.false,
@@ -42,9 +42,9 @@ returns-3 c =
 shown-requires-4 : tie.Need-shown-requires-4
 shown-requires-4 c κs = search rules
 
-returns-4 : tie.Need-returns-4
-unfolding parts-of
-returns-4 c =
+returns_4 : tie.Need-returns-4
+unfolding parts_of
+returns_4 c =
     c.shown4.ensures
     ∙ rw (
       le-ltb _ _ c.before.before.before.before.if1.false,
@@ -62,16 +62,16 @@ input-index-requires c κs = search rules
 shown-requires-5 : tie.Need-shown-requires-5
 shown-requires-5 c κs = search rules
 
-returns-5 : tie.Need-returns-5
-unfolding parts-of
-returns-5 c =
+returns_5 : tie.Need-returns-5
+unfolding parts_of
+returns_5 c =
     let at-input-region = c.before.before in
     let at-if = at-input-region.before in
     let at-if-2 = at-if.before in
     let at-if-3 = at-if-2.before in
     let at-if-4 = at-if-3.before in
     let at-if-5 = at-if-4.before in
-    (rw (at-input-region.input-region.ensures, c.before.input-index.ensures) at c.shown5.ensures)
+    (rw (at-input-region.input_region.ensures, c.before.input_index.ensures) at c.shown5.ensures)
     ∙ rw (
       le-ltb _ _ at-if-5.if1.false,
       le-ltb _ _ at-if-4.if2.false,
@@ -84,7 +84,7 @@ shown-requires-6 : tie.Need-shown-requires-6
 shown-requires-6 c κs = search rules
 
 returns-6 : tie.Need-returns-6
-unfolding parts-of
+unfolding parts_of
 returns-6 c =
     let at-if = c.before.before in
     let at-if-2 = at-if.before in
@@ -105,7 +105,7 @@ shown-requires-7 : tie.Need-shown-requires-7
 shown-requires-7 c κs = search rules
 
 returns-7 : tie.Need-returns-7
-unfolding parts-of
+unfolding parts_of
 returns-7 c =
     let at-if = c.before.before in
     let at-if-2 = at-if.before in
@@ -129,15 +129,15 @@ parts-of-spec =
     shown-requires
     returns
     shown-requires-2
-    returns-2
+    returns_2
     shown-requires-3
-    returns-3
+    returns_3
     shown-requires-4
-    returns-4
+    returns_4
     input-region-requires
     input-index-requires
     shown-requires-5
-    returns-5
+    returns_5
     shown-requires-6
     returns-6
     shown-requires-7

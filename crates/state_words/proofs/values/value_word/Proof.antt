@@ -38,17 +38,17 @@ enum_told c = search rules
 returns : tie.Need-returns
 returns c = rw c.before.before.v.given.1 c.constant.ensures
 
-returns-2 : tie.Need-returns-2
-returns-2 c = rw c.before.before.v2.given.1 c.input.ensures
+returns_2 : tie.Need-returns-2
+returns_2 c = rw c.before.before.v2.given.1 c.input.ensures
 
-returns-3 : tie.Need-returns-3
-returns-3 c = rw c.before.before.v3.given.1 c.instr.ensures
+returns_3 : tie.Need-returns-3
+returns_3 c = rw c.before.before.v3.given.1 c.instr.ensures
 
-returns-4 : tie.Need-returns-4
-returns-4 c = rw c.before.before.v4.given.1 c.boolean.ensures
+returns_4 : tie.Need-returns-4
+returns_4 c = rw c.before.before.v4.given.1 c.boolean.ensures
 
-returns-5 : tie.Need-returns-5
-returns-5 c = rw c.before.before.v5.given.1 c.undef.ensures
+returns_5 : tie.Need-returns-5
+returns_5 c = rw c.before.before.v5.given.1 c.undef.ensures
 
 returns-6 : tie.Need-returns-6
 returns-6 c = rw c.enum_told.given.1
@@ -69,8 +69,8 @@ value-word-spec =
     undef-requires
     enum_told
     returns
-    returns-2
-    returns-3
-    returns-4
-    returns-5
+    returns_2
+    returns_3
+    returns_4
+    returns_5
     returns-6)

@@ -17,11 +17,11 @@ element-copy-out-result c = search rules
 returns : tie.Need-returns
 returns c = search rules
 
-returns-2 : tie.Need-returns-2
-returns-2 c =
+returns_2 : tie.Need-returns-2
+returns_2 c =
     sym (get_or-eq_default c.before.before.before.args.w.now 0 {n = c.before.before.before.args.p}
     (omega (arith, c.before.before.tells-length-arg.given.0)))
 
 pub word-at-spec : {M : Type 1} → statement M
 word-at-spec =
-    tie.close (tie.spec tells-length-requires mul-result element-copy-out-result returns returns-2)
+    tie.close (tie.spec tells-length-requires mul-result element-copy-out-result returns returns_2)

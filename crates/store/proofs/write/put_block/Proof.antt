@@ -1,7 +1,7 @@
 use Prim.Native.Nat.{◌*◌}
 use native.Mathlib.Omega.{arith}
 use lib.ListN.{take, drop}
-use Rattle.store.specs.laws.Writes.{block-put}
+use Rattle.store.specs.laws.Writes.{block_put}
 use borrow.Author.Rules.{rules}
 use Rattle.store.proofs.write.put_block.Statement.{statement}
 use Rattle.store.proofs.write.put_block.Tie as tie
@@ -56,7 +56,7 @@ returns c =
     let start = at_pair.before.before.before in
     let b = start.args.b in
     let ws = take start.args.used start.args.w.now in
-    block-put (512 * b) b at_words.put-words.result (drop (253 * b) ws) start.args.out.now _ _ _ _ _ (omega arith)
+    block_put (512 * b) b at_words.put-words.result (drop (253 * b) ws) start.args.out.now _ _ _ _ _ (omega arith)
     at_pair.put-pair.ensures at_words.put-words.ensures at-pair2.put-pair2.ensures c.before.before.put-pair3.ensures
 
 pub put-block-spec : {M : Type 1} → statement M

@@ -5,7 +5,7 @@ use lib.ListN.{take, drop}
 use lib.Seq.{get_or-drop}
 use borrow.Author.Rules.{rules}
 use Rattle.store.specs.Writes.{WordsPut}
-use Rattle.store.specs.laws.Writes.{none-put, word-put, put_count, put-length}
+use Rattle.store.specs.laws.Writes.{none_put, word_put, put_count, put_length}
 use Rattle.store.proofs.write.put_words.Statement.{statement}
 use Rattle.store.proofs.write.put_words.Tie as tie
 
@@ -19,8 +19,8 @@ decreases-loop w used from out₀ at number sum₀ j₀ out sum j = 253 - j
 weight-requires : tie.Need-weight-requires invariant-loop decreases-loop
 weight-requires c κs = search rules
 
-loop-holds : tie.Need-loop-init invariant-loop decreases-loop
-loop-holds c = (omega arith, c.weight.ensures.1, none-put _ _ _ _ _ c.weight.ensures.0)
+loop_holds : tie.Need-loop-init invariant-loop decreases-loop
+loop_holds c = (omega arith, c.weight.ensures.1, none_put _ _ _ _ _ c.weight.ensures.0)
 
 add-record-word : tie.Need-overflow-add-record-word invariant-loop decreases-loop
 add-record-word c = search rules
@@ -35,7 +35,7 @@ add-put-pair : tie.Need-overflow-add-put-pair invariant-loop decreases-loop
 add-put-pair c = search rules
 
 put-pair-requires : tie.Need-put-pair-requires invariant-loop decreases-loop
-put-pair-requires c κs = omega (arith, put-length c.before.before.before.loop.invariant.2)
+put-pair-requires c κs = omega (arith, put_length c.before.before.before.loop.invariant.2)
 
 mul-weight : tie.Need-overflow-mul-weight invariant-loop decreases-loop
 mul-weight c = search rules
@@ -49,27 +49,27 @@ weight-requires-2 c κs = search rules
 add-sum : tie.Need-overflow-add-sum invariant-loop decreases-loop
 add-sum c = omega arith
 
-add-j : tie.Need-overflow-add-j invariant-loop decreases-loop
-add-j c = search rules
+add_j : tie.Need-overflow-add-j invariant-loop decreases-loop
+add_j c = search rules
 
-loop-less : tie.Need-loop-smaller invariant-loop decreases-loop
-loop-less c = search rules
+loop_less : tie.Need-loop-smaller invariant-loop decreases-loop
+loop_less c = search rules
 
-loop-again : tie.Need-loop-preserved invariant-loop decreases-loop
-loop-again c =
+loop_again : tie.Need-loop-preserved invariant-loop decreases-loop
+loop_again c =
     let at-loop = c.before.before.before.before.before.before.before in
     let start = c.before.before.before.before.before.before.before.before.before.before in
     let ws = take start.args.used start.args.w.now in (
       omega arith,
       omega arith,
-      word-put _ _ _ _ _ _ _ _ _ _ at-loop.loop.invariant.2
-          (c.before.before.before.before.before.record-word.ensures ∙ sym (get_or-drop start.args.from ws at-loop.loop.j 0))
+      word_put _ _ _ _ _ _ _ _ _ _ at-loop.loop.invariant.2
+          (c.before.before.before.before.before.record_word.ensures ∙ sym (get_or-drop start.args.from ws at-loop.loop.j 0))
           c.before.before.before.put-pair.ensures
           c.weight2.ensures.0,
     )
 
 same_length : tie.Need-same-length invariant-loop decreases-loop
-same_length c = put-length c.before.loop.invariant.2
+same_length c = put_length c.before.loop.invariant.2
 
 returns : tie.Need-returns invariant-loop decreases-loop
 returns c = put_count c.before.loop.j 253 (omega arith) c.before.loop.invariant.2
@@ -81,7 +81,7 @@ put-words-spec =
     invariant-loop
     decreases-loop
     weight-requires
-    loop-holds
+    loop_holds
     add-record-word
     record-word-requires
     mul-put-pair
@@ -91,8 +91,8 @@ put-words-spec =
     add-weight
     weight-requires-2
     add-sum
-    add-j
-    loop-less
-    loop-again
+    add_j
+    loop_less
+    loop_again
     same_length
     returns)

@@ -14,11 +14,11 @@ returns c =
     let start = c.before.before in
     c.word_at.ensures ∙ sym (get_or-take start.args.used start.args.w.now start.args.p 0 (omega arith))
 
-returns-2 : tie.Need-returns-2
-returns-2 c =
+returns_2 : tie.Need-returns-2
+returns_2 c =
     let start = c.before in
     sym (get_or-eq_default (take start.args.used start.args.w.now) 0 {n = start.args.p}
     (omega (arith, length-take start.args.used start.args.w.now)))
 
 pub record-word-spec : {M : Type 1} → statement M
-record-word-spec = tie.close (tie.spec word-at-requires returns returns-2)
+record-word-spec = tie.close (tie.spec word-at-requires returns returns_2)

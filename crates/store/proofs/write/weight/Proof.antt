@@ -1,5 +1,5 @@
 use native.Mathlib.Omega.{arith}
-use Rattle.store.specs.laws.Writes.{weight_is, low-weight, high-weight}
+use Rattle.store.specs.laws.Writes.{weight_is, low_weight, high_weight}
 use borrow.Author.Rules.{rules}
 use Rattle.store.proofs.write.weight.Statement.{statement}
 use Rattle.store.proofs.write.weight.Tie as tie
@@ -17,7 +17,7 @@ cast-result : tie.Need-overflow-cast-result
 cast-result c = search rules
 
 mul-result : tie.Need-overflow-mul-result
-mul-result c = omega (arith, low-weight c.args.word c.args.place c.requires)
+mul-result c = omega (arith, low_weight c.args.word c.args.place c.requires)
 
 add-result-2 : tie.Need-overflow-add-result-2
 add-result-2 c = search rules
@@ -26,14 +26,14 @@ cast-result-2 : tie.Need-overflow-cast-result-2
 cast-result-2 c = search rules
 
 mul-result-2 : tie.Need-overflow-mul-result-2
-mul-result-2 c = omega (arith, high-weight c.args.word c.args.place (omega arith) c.requires)
+mul-result-2 c = omega (arith, high_weight c.args.word c.args.place (omega arith) c.requires)
 
 add-result-3 : tie.Need-overflow-add-result-3
 add-result-3 c =
     omega (
       arith,
-      low-weight c.args.word c.args.place c.requires,
-      high-weight c.args.word c.args.place (omega arith) c.requires,
+      low_weight c.args.word c.args.place c.requires,
+      high_weight c.args.word c.args.place (omega arith) c.requires,
     )
 
 returns : tie.Need-returns
@@ -41,8 +41,8 @@ returns c = (
   weight_is c.args.word c.args.place,
   omega (
     arith,
-    low-weight c.args.word c.args.place c.requires,
-    high-weight c.args.word c.args.place (omega arith) c.requires,
+    low_weight c.args.word c.args.place c.requires,
+    high_weight c.args.word c.args.place (omega arith) c.requires,
   ),
 )
 

@@ -4,8 +4,8 @@ use native.Mathlib.Omega.{arith}
 use lib.ListN.{take}
 use borrow.Author.Rules.{rules}
 use Rattle.store.specs.Writes.{BlocksPut}
-use Rattle.store.specs.laws.Writes.{no-block-put, next-block-put, blocks-length, refused_none, refused_over, refused-short}
-use Rattle.store.specs.laws.Writes.{store-put}
+use Rattle.store.specs.laws.Writes.{no_block_put, next_block_put, blocks_length, refused_none, refused_over, refused_short}
+use Rattle.store.specs.laws.Writes.{store_put}
 use Rattle.store.proofs.write.write_store.Statement.{statement}
 use Rattle.store.proofs.write.write_store.Tie as tie
 
@@ -29,8 +29,8 @@ returns c =
     let at-word = c.before in
     refused_none _ _ (omega (arith, at-word.before.before.tells-length-arg.given.0)) (sym at-word.word_at.ensures ∙ c.if1.true)
 
-returns-2 : tie.Need-returns-2 invariant-loop decreases-loop
-returns-2 c =
+returns_2 : tie.Need-returns-2 invariant-loop decreases-loop
+returns_2 c =
     let at-word = c.before.before in
     refused_over _ _ (omega (arith, at-word.before.before.tells-length-arg.given.0)) (omega (arith, at-word.word_at.ensures))
 
@@ -40,28 +40,28 @@ add-blocks c = search rules
 mul-if3 : tie.Need-overflow-mul-if3 invariant-loop decreases-loop
 mul-if3 c = search rules
 
-returns-3 : tie.Need-returns-3 invariant-loop decreases-loop
-returns-3 c =
+returns_3 : tie.Need-returns-3 invariant-loop decreases-loop
+returns_3 c =
     let at-word = c.before.before.before in
     let room = at-word.before.before.tells-length-arg.given.0 in
-    refused-short _ _ (omega arith) _ at-word.word_at.ensures (omega arith) (omega arith) (omega arith)
+    refused_short _ _ (omega arith) _ at-word.word_at.ensures (omega arith) (omega arith) (omega arith)
 
-loop-holds : tie.Need-loop-init invariant-loop decreases-loop
-loop-holds c = (omega arith, no-block-put _ _)
+loop_holds : tie.Need-loop-init invariant-loop decreases-loop
+loop_holds c = (omega arith, no_block_put _ _)
 
 put-block-requires : tie.Need-put-block-requires invariant-loop decreases-loop
-put-block-requires c κs = (omega arith, omega (arith, blocks-length c.before.before.loop.invariant.1))
+put-block-requires c κs = (omega arith, omega (arith, blocks_length c.before.before.loop.invariant.1))
 
 add-b : tie.Need-overflow-add-b invariant-loop decreases-loop
 add-b c = search rules
 
-loop-less : tie.Need-loop-smaller invariant-loop decreases-loop
-loop-less c = search rules
+loop_less : tie.Need-loop-smaller invariant-loop decreases-loop
+loop_less c = search rules
 
-loop-again : tie.Need-loop-preserved invariant-loop decreases-loop
-loop-again c =
+loop_again : tie.Need-loop-preserved invariant-loop decreases-loop
+loop_again c =
     let at_block = c.before.before in
-    (omega arith, next-block-put _ _ _ _ _ at_block.before.before.before.loop.invariant.1 at_block.put-block.ensures)
+    (omega arith, next_block_put _ _ _ _ _ at_block.before.before.before.loop.invariant.1 at_block.put-block.ensures)
 
 mul-t13 : tie.Need-overflow-mul-t13 invariant-loop decreases-loop
 mul-t13 c = search rules
@@ -70,14 +70,14 @@ cast-t9 : tie.Need-overflow-cast-t9 invariant-loop decreases-loop
 cast-t9 c = search rules
 
 same_length : tie.Need-same-length invariant-loop decreases-loop
-same_length c = blocks-length c.before.loop.invariant.1
+same_length c = blocks_length c.before.loop.invariant.1
 
-returns-4 : tie.Need-returns-4 invariant-loop decreases-loop
-returns-4 c =
+returns_4 : tie.Need-returns-4 invariant-loop decreases-loop
+returns_4 c =
     let at-loop = c.before in
     let at-word = at-loop.before.before.before.before in
     let room = at-word.before.before.tells-length-arg.given.0 in
-    store-put _ _ (omega arith) _ at-word.word_at.ensures (omega arith) (omega arith) _ at-loop.loop.b (omega arith) (omega arith)
+    store_put _ _ (omega arith) _ at-word.word_at.ensures (omega arith) (omega arith) _ at-loop.loop.b (omega arith) (omega arith)
     at-loop.loop.invariant.1
 
 pub write-store-spec : {M : Type 1} → statement M
@@ -90,16 +90,16 @@ write-store-spec =
     word-at-requires
     cast-used
     returns
-    returns-2
+    returns_2
     add-blocks
     mul-if3
-    returns-3
-    loop-holds
+    returns_3
+    loop_holds
     put-block-requires
     add-b
-    loop-less
-    loop-again
+    loop_less
+    loop_again
     mul-t13
     cast-t9
     same_length
-    returns-4)
+    returns_4)

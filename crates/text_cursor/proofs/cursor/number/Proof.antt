@@ -2,7 +2,7 @@ use mathlib.Core.Path.{refl}
 use borrow.Author.Rules.{rules}
 use Rattle.nesting.specs.decoding.Decode.{next_word}
 use Rattle.text_cursor.specs.Lines.{shown}
-use Rattle.text_cursor.specs.laws.WordsToTextSteps.{puts-said, puts-next, puts-ended}
+use Rattle.text_cursor.specs.laws.WordsToTextSteps.{puts_said, puts_next, puts_ended}
 use Rattle.text_cursor.proofs.cursor.number.Statement.{statement}
 use Rattle.text_cursor.proofs.cursor.number.Tie as tie
 
@@ -11,7 +11,7 @@ stop-requires c κs = search rules
 
 returns : tie.Need-returns
 unfolding shown next_word
-returns c = puts-ended refl c.before.if1.true c.stop.ensures
+returns c = puts_ended refl c.before.if1.true c.stop.ensures
 
 mul-put-number : tie.Need-overflow-mul-put-number
 mul-put-number c = search rules
@@ -28,10 +28,10 @@ add-t6 c = search rules
 same_length : tie.Need-same-length
 same_length c = search rules
 
-returns-2 : tie.Need-returns-2
+returns_2 : tie.Need-returns-2
 unfolding shown next_word
-returns-2 c = puts-next c.before.before.before.before.before.if1.false (λ rest. refl)
-    (puts-said refl c.before.before.put-number.ensures)
+returns_2 c = puts_next c.before.before.before.before.before.if1.false (λ rest. refl)
+    (puts_said refl c.before.before.put-number.ensures)
 
 pub number-spec : {M : Type 1} → statement M
 number-spec =
@@ -44,4 +44,4 @@ number-spec =
     put-number-requires
     add-t6
     same_length
-    returns-2)
+    returns_2)

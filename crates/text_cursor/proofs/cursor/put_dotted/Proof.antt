@@ -1,7 +1,7 @@
 use mathlib.Core.List.{append_assoc}
 use borrow.Author.Rules.{rules}
 use Rattle.meaning.specs.Text.{joined}
-use Rattle.text.specs.laws.BufferLaws.{◌▸◌, of-text}
+use Rattle.text.specs.laws.BufferLaws.{◌▸◌, of_text}
 use Rattle.text_cursor.proofs.cursor.put_dotted.Statement.{statement}
 use Rattle.text_cursor.proofs.cursor.put_dotted.Tie as tie
 
@@ -25,7 +25,7 @@ unfolding joined
 returns c =
     let at-put-number = c.before.before.before.before.before.before.before in
     let at-put-byte = at-put-number.before.before.before.before in
-    of-text (simp append_assoc) (at-put-byte.put_byte.ensures ▸ at-put-number.put-number.ensures
+    of_text (simp append_assoc) (at-put-byte.put_byte.ensures ▸ at-put-number.put-number.ensures
     ▸ c.before.before.put-labeled.ensures)
 
 pub put-dotted-spec : {M : Type 1} → statement M

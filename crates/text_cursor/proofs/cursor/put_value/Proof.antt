@@ -2,8 +2,8 @@ use mathlib.Core.Path.{refl, sym}
 use native.Mathlib.Omega.{arith}
 use borrow.Author.Tests.{ne_eqb}
 use borrow.Author.Rules.{rules}
-use Rattle.text.specs.laws.BufferLaws.{of-text, wrote_none}
-use Rattle.text_cursor.specs.laws.Readers.{value-other}
+use Rattle.text.specs.laws.BufferLaws.{of_text, wrote_none}
+use Rattle.text_cursor.specs.laws.Readers.{value_other}
 use Rattle.text_cursor.proofs.cursor.put_value.Statement.{statement}
 use Rattle.text_cursor.proofs.cursor.put_value.Tie as tie
 
@@ -36,7 +36,7 @@ returns c =
     let at-put-text = c.before.before in
     let at-if = at-put-text.before.before.before in
     let at-match = at-if.before in
-    of-text (rw at-match.match.keys5 (rw
+    of_text (rw at-match.match.keys5 (rw
     at-if.if1.true refl)) at-put-text.put-text.ensures
 
 slice-aggregate-put-text-2 : tie.Need-slice-aggregate-put-text-2
@@ -54,26 +54,26 @@ put-labeled-requires-2 c κs = search rules
 same-length-2 : tie.Need-same-length-2
 same-length-2 c = search rules
 
-returns-2 : tie.Need-returns-2
-returns-2 c = of-text (rw c.before.before.before.before.before.match.keys1 refl) c.before.before.put-labeled.ensures
+returns_2 : tie.Need-returns-2
+returns_2 c = of_text (rw c.before.before.before.before.before.match.keys1 refl) c.before.before.put-labeled.ensures
 
 same-length-3 : tie.Need-same-length-3
 same-length-3 c = search rules
 
-returns-3 : tie.Need-returns-3
-returns-3 c = of-text (rw c.before.before.before.before.match.keys2 refl) c.before.before.put-dotted.ensures
+returns_3 : tie.Need-returns-3
+returns_3 c = of_text (rw c.before.before.before.before.match.keys2 refl) c.before.before.put-dotted.ensures
 
 same-length-4 : tie.Need-same-length-4
 same-length-4 c = search rules
 
-returns-4 : tie.Need-returns-4
-returns-4 c = of-text (rw c.before.before.before.before.match.keys3 refl) c.before.before.put-dotted2.ensures
+returns_4 : tie.Need-returns-4
+returns_4 c = of_text (rw c.before.before.before.before.match.keys3 refl) c.before.before.put-dotted2.ensures
 
 same-length-5 : tie.Need-same-length-5
 same-length-5 c = search rules
 
-returns-5 : tie.Need-returns-5
-returns-5 c = of-text (rw c.before.before.before.before.match.keys4 refl) c.before.before.put-dotted3.ensures
+returns_5 : tie.Need-returns-5
+returns_5 c = of_text (rw c.before.before.before.before.match.keys4 refl) c.before.before.put-dotted3.ensures
 
 same-length-6 : tie.Need-same-length-6
 same-length-6 c = search rules
@@ -83,19 +83,19 @@ returns-6 c =
     let at-put-text = c.before.before in
     let at-if = at-put-text.before.before.before in
     let at-match = at-if.before in
-    of-text (rw at-match.match.keys5 (rw (ne_eqb _ _
+    of_text (rw at-match.match.keys5 (rw (ne_eqb _ _
     at-if.if1.false) refl)) at-put-text.put-text2.ensures
 
 same-length-7 : tie.Need-same-length-7
 same-length-7 c = search rules
 
 returns-7 : tie.Need-returns-7
-returns-7 c = of-text (rw c.before.before.before.before.before.match.keys6 refl) c.before.before.put-labeled2.ensures
+returns-7 c = of_text (rw c.before.before.before.before.before.match.keys6 refl) c.before.before.put-labeled2.ensures
 
 returns-8 : tie.Need-returns-8
 returns-8 c =
     let a = c.before.before.args in
-    of-text (sym (value-other a.r a.k a.kind (omega arith))) wrote_none
+    of_text (sym (value_other a.r a.k a.kind (omega arith))) wrote_none
 
 pub put-value-spec : {M : Type 1} → statement M
 put-value-spec =
@@ -115,13 +115,13 @@ put-value-spec =
     slice-aggregate-put-labeled-2
     put-labeled-requires-2
     same-length-2
-    returns-2
+    returns_2
     same-length-3
-    returns-3
+    returns_3
     same-length-4
-    returns-4
+    returns_4
     same-length-5
-    returns-5
+    returns_5
     same-length-6
     returns-6
     same-length-7

@@ -3,9 +3,9 @@ use native.Mathlib.Omega.{arith}
 use lib.ListN.{length-drop}
 use borrow.Author.Rules.{rules}
 use Rattle.nesting.specs.decoding.Decode.{next_word}
-use Rattle.text_cursor.specs.laws.Readers.{value-short}
+use Rattle.text_cursor.specs.laws.Readers.{value_short}
 use Rattle.text_cursor.specs.Lines.{shown}
-use Rattle.text_cursor.specs.laws.WordsToTextSteps.{puts-said, puts-three, puts_none}
+use Rattle.text_cursor.specs.laws.WordsToTextSteps.{puts_said, puts_three, puts_none}
 use Rattle.text_cursor.proofs.cursor.value.Statement.{statement}
 use Rattle.text_cursor.proofs.cursor.value.Tie as tie
 
@@ -13,7 +13,7 @@ stop-requires : tie.Need-stop-requires
 stop-requires c κs = search rules
 
 returns : tie.Need-returns
-returns c = puts_none (λ l. value-short _ (rw length-drop (omega arith))) c.stop.ensures
+returns c = puts_none (λ l. value_short _ (rw length-drop (omega arith))) c.stop.ensures
 
 sub-if2 : tie.Need-overflow-sub-if2
 sub-if2 c = search rules
@@ -21,8 +21,8 @@ sub-if2 c = search rules
 stop-requires-2 : tie.Need-stop-requires-2
 stop-requires-2 c κs = search rules
 
-returns-2 : tie.Need-returns-2
-returns-2 c = puts_none (λ l. value-short _ (rw length-drop (omega arith))) c.stop2.ensures
+returns_2 : tie.Need-returns-2
+returns_2 c = puts_none (λ l. value_short _ (rw length-drop (omega arith))) c.stop2.ensures
 
 mul-put-value : tie.Need-overflow-mul-put-value
 mul-put-value c = search rules
@@ -57,9 +57,9 @@ add-t6 c = search rules
 same_length : tie.Need-same-length
 same_length c = search rules
 
-returns-3 : tie.Need-returns-3
+returns_3 : tie.Need-returns-3
 unfolding shown next_word
-returns-3 c = puts-three (omega arith) (λ rest. refl) (puts-said refl c.before.before.put-value.ensures)
+returns_3 c = puts_three (omega arith) (λ rest. refl) (puts_said refl c.before.before.put-value.ensures)
 
 pub value_spec : {M : Type 1} → statement M
 value_spec =
@@ -69,7 +69,7 @@ value_spec =
     returns
     sub-if2
     stop-requires-2
-    returns-2
+    returns_2
     mul-put-value
     shared-slice-read-put-value
     add-put-value
@@ -81,4 +81,4 @@ value_spec =
     put-value-requires
     add-t6
     same_length
-    returns-3)
+    returns_3)

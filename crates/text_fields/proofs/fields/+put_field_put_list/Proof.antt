@@ -7,9 +7,9 @@ use lib.ListN.{length}
 use borrow.Author.Rules.{rules}
 use borrow.Fn.Kinds.{In}
 use borrow.Fn.PlainCycle.{Measures, is, falls, and}
-use Rattle.text_cursor.specs.laws.WordsToTextSteps.{puts_then, puts-as}
-use Rattle.text_fields.specs.laws.FieldTexts.{item-shown, merge-there, plain-there}
-use Rattle.text_fields.specs.laws.ListTurns.{Turned, turned-first, turned-next, turned-all, turned-beyond, list-missing, list-empty}
+use Rattle.text_cursor.specs.laws.WordsToTextSteps.{puts_then, puts_as}
+use Rattle.text_fields.specs.laws.FieldTexts.{item_shown, merge_there, plain_there}
+use Rattle.text_fields.specs.laws.ListTurns.{Turned, turned_first, turned_next, turned_all, turned_beyond, list_missing, list_empty}
 use Rattle.text_fields.proofs.fields.put_field.Reads as put-field
 use Rattle.text_fields.proofs.fields.put_field.Kinds as put-field-kinds
 use Rattle.text_fields.proofs.fields.+put_field_put_list.Lts-put_field as field
@@ -21,8 +21,8 @@ use Rattle.text_cursor.proofs.cursor.say.Reads as say
 use Rattle.text_cursor.proofs.cursor.stop.Reads as stop
 use Rattle.text_cursor.proofs.cursor.value.Reads as value
 use Rattle.text_fields.proofs.fields.is_merge.Reads as is-merge
-use Rattle.text_fields.proofs.fields.item_head.Reads as item-head
-use Rattle.text_fields.proofs.fields.merge_head.Reads as merge-head
+use Rattle.text_fields.proofs.fields.item_head.Reads as item_head
+use Rattle.text_fields.proofs.fields.merge_head.Reads as merge_head
 use Rattle.text_fields.proofs.fields.none.Reads as none
 use Rattle.text_fields.proofs.fields.plain_condition.Reads as plain-condition
 use Rattle.text_fields.proofs.fields.+put_field_put_list.{statement}
@@ -53,14 +53,14 @@ field-calls t = (
   number.Learnt,
   value.Asked,
   value.Learnt,
-  item-head.Asked,
-  item-head.Learnt,
+  item_head.Asked,
+  item_head.Learnt,
   list-below t,
   put-list.Post,
   is-merge.Asked,
   is-merge.Learnt,
-  merge-head.Asked,
-  merge-head.Learnt,
+  merge_head.Asked,
+  merge_head.Learnt,
   say.Asked,
   say.Learnt,
   plain-condition.Asked,
@@ -105,7 +105,7 @@ module _ (t : ℕ) where
   field-item-head-requires c κs = search rules
 
   field-put-list-requires : field.Need-put-list-requires (field-calls t) (field_at t) put-field.Post
-  field-put-list-requires c κs = (omega (arith, c.before.before.before.item-head.ensures.ahead), tt)
+  field-put-list-requires c κs = (omega (arith, c.before.before.before.item_head.ensures.ahead), tt)
 
   field-enum-told-4 : field.Need-enum-told-4 (field-calls t) (field_at t) put-field.Post
   field-enum-told-4 c = search rules
@@ -117,7 +117,7 @@ module _ (t : ℕ) where
   field-merge-head-requires c κs = search rules
 
   field-put-list-requires-2 : field.Need-put-list-requires-2 (field-calls t) (field_at t) put-field.Post
-  field-put-list-requires-2 c κs = (omega (arith, c.before.before.before.merge-head.ensures.ahead), tt)
+  field-put-list-requires-2 c κs = (omega (arith, c.before.before.before.merge_head.ensures.ahead), tt)
 
   field-slice-aggregate-say : field.Need-slice-aggregate-say (field-calls t) (field_at t) put-field.Post
   field-slice-aggregate-say c = search rules
@@ -129,7 +129,7 @@ module _ (t : ℕ) where
   field-same-length c =
       let at-put-list2 = c.before.before.before.before.before.before.before in
       let at-merge-head = at-put-list2.before.before.before.before in
-      c.before.before.say.auto.0 ∙ at-put-list2.put-list2.auto.1.0 ∙ at-merge-head.merge-head.auto.1.0
+      c.before.before.say.auto.0 ∙ at-put-list2.put-list2.auto.1.0 ∙ at-merge-head.merge_head.auto.1.0
 
   field-returns : field.Need-returns (field-calls t) (field_at t) put-field.Post
   field-returns c =
@@ -139,7 +139,7 @@ module _ (t : ℕ) where
       let at-is-merge = at-if1.before in
       let at-enum-told4 = at-is-merge.before in
       λ depth h. rw at-enum-told4.enum-told4.given.1
-      (merge-there (sym at-is-merge.is-merge.ensures ∙ at-if1.if1.true) depth h at-merge-head.merge-head.ensures
+      (merge_there (sym at-is-merge.is-merge.ensures ∙ at-if1.if1.true) depth h at-merge-head.merge_head.ensures
       at-put-list2.put-list2.ensures (c.before.before.say.ensures _))
 
   field-plain-condition-requires : field.Need-plain-condition-requires (field-calls t) (field_at t) put-field.Post
@@ -161,15 +161,15 @@ module _ (t : ℕ) where
   field-same-length-4 c =
       let at-put-list = c.before.before in
       let at-item-head = at-put-list.before.before.before.before in
-      at-put-list.put-list.auto.1.0 ∙ at-item-head.item-head.auto.1.0
+      at-put-list.put-list.auto.1.0 ∙ at-item-head.item_head.auto.1.0
 
   field-returns-4 : field.Need-returns-4 (field-calls t) (field_at t) put-field.Post
   field-returns-4 c =
       let at-item-head = c.before.before.before.before.before.before in
       let at-enum-told3 = at-item-head.before.before in
       λ depth h. rw at-enum-told3.enum-told3.given.1
-      (puts-as (item-shown depth) (puts_then at-item-head.item-head.ensures (c.before.before.put-list.ensures depth (omega
-      (arith, at-item-head.item-head.ensures.ahead)))))
+      (puts_as (item_shown depth) (puts_then at-item-head.item_head.ensures (c.before.before.put-list.ensures depth (omega
+      (arith, at-item-head.item_head.ensures.ahead)))))
 
   field-same-length-5 : field.Need-same-length-5 (field-calls t) (field_at t) put-field.Post
   field-same-length-5 c = c.before.before.plain-condition.auto.1.0
@@ -180,13 +180,13 @@ module _ (t : ℕ) where
       let at-is-merge = at-if1.before in
       let at-enum-told4 = at-is-merge.before in
       λ depth h. rw at-enum-told4.enum-told4.given.1
-      (plain-there (sym at-is-merge.is-merge.ensures ∙ at-if1.if1.false) depth h c.before.before.plain-condition.ensures)
+      (plain_there (sym at-is-merge.is-merge.ensures ∙ at-if1.if1.false) depth h c.before.before.plain-condition.ensures)
 
   list-stop-requires : list.Need-stop-requires (list-calls t) (list_at t) put-list.Post invariant-loop decreases-loop
   list-stop-requires c κs = search rules
 
   list-returns : list.Need-returns (list-calls t) (list_at t) put-list.Post invariant-loop decreases-loop
-  list-returns c = list-missing c.before.before.before.before.args.kind c.before.if1.true c.stop.ensures
+  list-returns c = list_missing c.before.before.before.before.args.kind c.before.if1.true c.stop.ensures
 
   list-mul-n : list.Need-mul-n (list-calls t) (list_at t) put-list.Post invariant-loop decreases-loop
   list-mul-n c = search rules
@@ -208,7 +208,7 @@ module _ (t : ℕ) where
       let at-if2 = c.before.before.before.before in
       let at-if1 = at-if2.before.before in
       let start = at-if1.before.before.before in
-      list-empty start.args.kind at-if1.if1.false at-if2.if2.true (c.before.before.none.ensures _)
+      list_empty start.args.kind at-if1.if1.false at-if2.if2.true (c.before.before.none.ensures _)
 
   list-put-field-requires : list.Need-put-field-requires (list-calls t) (list_at t) put-list.Post invariant-loop decreases-loop
   list-put-field-requires c κs = (omega arith, tt)
@@ -216,7 +216,7 @@ module _ (t : ℕ) where
   list-loop-holds : list.Need-loop-holds (list-calls t) (list_at t) put-list.Post invariant-loop decreases-loop
   list-loop-holds c =
       let start = c.before.before.before.before.before.before.before.before.before in
-      turned-first (omega (
+      turned_first (omega (
         arith,
         (c.before.before.put-field.ensures (length start.args.words.now) (omega arith)).ahead,
       ))
@@ -234,7 +234,7 @@ module _ (t : ℕ) where
       let at-put-field = at-loop.before.before.before in
       let at-if2 = at-put-field.before.before in
       let at-if1 = at-if2.before.before in
-      turned-beyond at-loop.loop.invariant at-if1.if1.false refl at-if2.if2.false at-put-field.put-field.ensures c.if3.true
+      turned_beyond at-loop.loop.invariant at-if1.if1.false refl at-if2.if2.false at-put-field.put-field.ensures c.if3.true
 
   list-slice-aggregate-say : list.Need-slice-aggregate-say (list-calls t) (list_at t) put-list.Post invariant-loop decreases-loop
   list-slice-aggregate-say c = search rules
@@ -267,7 +267,7 @@ module _ (t : ℕ) where
       let at-say = c.before.before.before.before.before.before in
       let at-loop-test = at-say.before.before.before.before.before in
       let at-loop = at-loop-test.before in
-      turned-next at-loop.loop.invariant at-loop-test.loop-test.true
+      turned_next at-loop.loop.invariant at-loop-test.loop-test.true
       (c.before.before.put-field2.auto.1.0 ∙ at-say.say.auto.0) (at-say.say.ensures _)
       c.before.before.put-field2.ensures
 
@@ -281,7 +281,7 @@ module _ (t : ℕ) where
       let at-put-field = c.before.before.before.before in
       let at-if2 = at-put-field.before.before in
       let at-if1 = at-if2.before.before in
-      turned-all c.before.loop.invariant at-if1.if1.false refl at-if2.if2.false at-put-field.put-field.ensures c.loop-test.false
+      turned_all c.before.loop.invariant at-if1.if1.false refl at-if2.if2.false at-put-field.put-field.ensures c.loop-test.false
 
 pub +put-field-put-list-spec : {M : Type 1} → statement M
 +put-field-put-list-spec = close field-measure list-measure (λ t. field.spec (field-calls t) (field_at t) put-field.Post

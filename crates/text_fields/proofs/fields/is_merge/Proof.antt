@@ -13,8 +13,8 @@ mul-result c = search rules
 shared-slice-read-result : tie.Need-shared-slice-read-result
 shared-slice-read-result c = search rules
 
-returns-2 : tie.Need-returns-2
-returns-2 c = search rules
+returns_2 : tie.Need-returns-2
+returns_2 c = search rules
 
 pub is-merge-spec : {M : Type 1} → statement M
-is-merge-spec = tie.close (tie.spec returns mul-result shared-slice-read-result returns-2)
+is-merge-spec = tie.close (tie.spec returns mul-result shared-slice-read-result returns_2)

@@ -48,9 +48,9 @@ same_length c =
     let at-say2 = at-number3.before.before.before.before in
     let at-number2 = at-say2.before.before.before.before.before in
     let at-say = at-number2.before.before.before.before in
-    let at-number = at-say.before.before.before.before.before in
+    let at_number = at-say.before.before.before.before.before in
     c.before.before.say4.auto.0 ∙ at-number4.number4.auto.1.0 ∙ at-say3.say3.auto.0 ∙ at-number3.number3.auto.1.0
-    ∙ at-say2.say2.auto.0 ∙ at-number2.number2.auto.1.0 ∙ at-say.say.auto.0 ∙ at-number.number.auto.1.0
+    ∙ at-say2.say2.auto.0 ∙ at-number2.number2.auto.1.0 ∙ at-say.say.auto.0 ∙ at_number.number.auto.1.0
 
 returns : tie.Need-returns
 returns c =
@@ -60,8 +60,8 @@ returns c =
     let at-say2 = at-number3.before.before.before.before in
     let at-number2 = at-say2.before.before.before.before.before in
     let at-say = at-number2.before.before.before.before in
-    let at-number = at-say.before.before.before.before.before in
-    puts_then at-number.number.ensures (puts_then (at-say.say.ensures _) (puts_then at-number2.number2.ensures (puts_then
+    let at_number = at-say.before.before.before.before.before in
+    puts_then at_number.number.ensures (puts_then (at-say.say.ensures _) (puts_then at-number2.number2.ensures (puts_then
     (at-say2.say2.ensures _) (puts_then at-number3.number3.ensures (puts_then (at-say3.say3.ensures _) (puts_then
     at-number4.number4.ensures (c.before.before.say4.ensures _)))))))
 

@@ -1,6 +1,6 @@
 use borrow.Author.Rules.{rules}
-use Rattle.text_fields.specs.Fields.{field-within}
-use Rattle.text_cursor.specs.laws.WordsToTextSteps.{puts_then, puts-any}
+use Rattle.text_fields.specs.Fields.{field_within}
+use Rattle.text_cursor.specs.laws.WordsToTextSteps.{puts_then, puts_any}
 use Rattle.text_fields.proofs.fields.labeled.Statement.{statement}
 use Rattle.text_fields.proofs.fields.labeled.Tie as tie
 
@@ -19,7 +19,7 @@ returns c =
     let at-say = at-put-field.before.before.before.before in
     let at-args = at-say.before.before.before.before.before in
     puts_then (at-say.say.ensures _)
-    (puts-any 0 (λ depth. field-within depth
+    (puts_any 0 (λ depth. field_within depth
     at-args.args.kind)
     at-put-field.put-field.ensures)
 

@@ -1,6 +1,6 @@
 use borrow.Author.Rules.{rules}
-use Rattle.text_fields.specs.Fields.{list-within}
-use Rattle.text_cursor.specs.laws.WordsToTextSteps.{puts_then, puts-any}
+use Rattle.text_fields.specs.Fields.{list_within}
+use Rattle.text_cursor.specs.laws.WordsToTextSteps.{puts_then, puts_any}
 use Rattle.text_fields.proofs.fields.listed.Statement.{statement}
 use Rattle.text_fields.proofs.fields.listed.Tie as tie
 
@@ -19,7 +19,7 @@ returns c =
     let at-say = at-put-list.before.before.before.before in
     let at-args = at-say.before.before.before.before.before in
     puts_then (at-say.say.ensures _)
-    (puts-any 1 (λ depth. list-within depth
+    (puts_any 1 (λ depth. list_within depth
     at-args.args.kind)
     at-put-list.put-list.ensures)
 

@@ -26,10 +26,10 @@ same_length c = search rules
 
 returns : tie.Need-returns
 returns c =
-    let at-number = c.before.before.before.before.before.before.before in
-    let at-say = at-number.before.before.before.before in
+    let at_number = c.before.before.before.before.before.before.before in
+    let at-say = at_number.before.before.before.before in
     let at-skip = at-say.before.before.before in
-    puts_then (at-skip.skip.ensures _) (puts_then (at-say.say.ensures _) (puts_then at-number.number.ensures
+    puts_then (at-skip.skip.ensures _) (puts_then (at-say.say.ensures _) (puts_then at_number.number.ensures
     (c.before.before.say2.ensures _)))
 
 pub merge-head-spec : {M : Type 1} → statement M

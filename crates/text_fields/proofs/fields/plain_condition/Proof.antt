@@ -1,8 +1,8 @@
 use mathlib.Core.Path.{refl}
 use borrow.Author.Rules.{rules}
 use Rattle.nesting.specs.decoding.Decode.{next_word}
-use Rattle.text_cursor.specs.laws.Readers.{plain-none}
-use Rattle.text_cursor.specs.laws.WordsToTextSteps.{puts-next, puts-ended, puts-refused}
+use Rattle.text_cursor.specs.laws.Readers.{plain_none}
+use Rattle.text_cursor.specs.laws.WordsToTextSteps.{puts_next, puts_ended, puts_refused}
 use Rattle.text_fields.proofs.fields.plain_condition.Statement.{statement}
 use Rattle.text_fields.proofs.fields.plain_condition.Tie as tie
 
@@ -11,7 +11,7 @@ stop-requires c κs = search rules
 
 returns : tie.Need-returns
 unfolding next_word
-returns c = puts-ended refl c.before.if1.true c.stop.ensures
+returns c = puts_ended refl c.before.if1.true c.stop.ensures
 
 add-match : tie.Need-overflow-add-match
 add-match c = search rules
@@ -46,44 +46,44 @@ stop-requires-2 c κs = search rules
 same_length : tie.Need-same-length
 same_length c = search rules
 
-returns-2 : tie.Need-returns-2
+returns_2 : tie.Need-returns-2
 unfolding next_word
-returns-2 c =
+returns_2 c =
     let at-say = c.before.before in
     let at-match = at-say.before.before.before in
     let at-if = at-match.before.before in
-    puts-next at-if.if1.false
+    puts_next at-if.if1.false
     (λ rest. rw at-match.match.keys1 refl) (at-say.say.ensures _)
 
 same-length-2 : tie.Need-same-length-2
 same-length-2 c = search rules
 
-returns-3 : tie.Need-returns-3
+returns_3 : tie.Need-returns-3
 unfolding next_word
-returns-3 c =
+returns_3 c =
     let at-say = c.before.before in
     let at-match = at-say.before.before.before in
     let at-if = at-match.before.before in
-    puts-next at-if.if1.false
+    puts_next at-if.if1.false
     (λ rest. rw at-match.match.keys2 refl) (at-say.say2.ensures _)
 
 same-length-3 : tie.Need-same-length-3
 same-length-3 c = search rules
 
-returns-4 : tie.Need-returns-4
+returns_4 : tie.Need-returns-4
 unfolding next_word
-returns-4 c =
+returns_4 c =
     let at-say = c.before.before in
     let at-match = at-say.before.before.before in
     let at-if = at-match.before.before in
-    puts-next at-if.if1.false
+    puts_next at-if.if1.false
     (λ rest. rw at-match.match.keys3 refl) (at-say.say3.ensures _)
 
-returns-5 : tie.Need-returns-5
+returns_5 : tie.Need-returns-5
 unfolding next_word
-returns-5 c =
+returns_5 c =
     let n = c.before.match.rest in
-    puts-refused c.before.before.before.if1.false (plain-none _ n.0.0.1 n.0.1 n.1) c.stop2.ensures
+    puts_refused c.before.before.before.if1.false (plain_none _ n.0.0.1 n.0.1 n.1) c.stop2.ensures
 
 pub plain-condition-spec : {M : Type 1} → statement M
 plain-condition-spec =
@@ -102,9 +102,9 @@ plain-condition-spec =
     say-requires-3
     stop-requires-2
     same_length
-    returns-2
+    returns_2
     same-length-2
-    returns-3
+    returns_3
     same-length-3
-    returns-4
-    returns-5)
+    returns_4
+    returns_5)

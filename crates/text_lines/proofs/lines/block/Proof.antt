@@ -1,6 +1,6 @@
 use borrow.Author.Rules.{rules}
-use Rattle.text_cursor.specs.laws.WordsToTextSteps.{puts_then, puts-as}
-use Rattle.text_lines.specs.laws.LineTexts.{block-shown}
+use Rattle.text_cursor.specs.laws.WordsToTextSteps.{puts_then, puts_as}
+use Rattle.text_lines.specs.laws.LineTexts.{block_shown}
 use Rattle.text_lines.proofs.lines.block.Statement.{statement}
 use Rattle.text_lines.proofs.lines.block.Tie as tie
 
@@ -22,7 +22,7 @@ same_length c = search rules
 returns : tie.Need-returns
 returns c =
     let at-labeled = c.before.before.before.before.before.before.before in
-    puts-as block-shown (puts_then at-labeled.labeled.ensures c.before.before.listed.ensures)
+    puts_as block_shown (puts_then at-labeled.labeled.ensures c.before.before.listed.ensures)
 
 pub block_spec : {M : Type 1} → statement M
 block_spec =

@@ -1,7 +1,7 @@
 use mathlib.Core.Path.{◌∙◌}
 use borrow.Author.Rules.{rules}
-use Rattle.text_cursor.specs.laws.WordsToTextSteps.{puts_then, puts-as}
-use Rattle.text_lines.specs.laws.LineTexts.{defer-shown}
+use Rattle.text_cursor.specs.laws.WordsToTextSteps.{puts_then, puts_as}
+use Rattle.text_lines.specs.laws.LineTexts.{defer_shown}
 use Rattle.text_lines.proofs.lines.defer.Statement.{statement}
 use Rattle.text_lines.proofs.lines.defer.Tie as tie
 
@@ -17,8 +17,8 @@ slice-aggregate-say c = search rules
 say-requires : tie.Need-say-requires
 say-requires c κs = search rules
 
-target-requires : tie.Need-target-requires
-target-requires c κs = search rules
+target_requires : tie.Need-target-requires
+target_requires c κs = search rules
 
 slice-aggregate-labeled-2 : tie.Need-slice-aggregate-labeled-2
 slice-aggregate-labeled-2 c = search rules
@@ -55,7 +55,7 @@ returns c =
     let at_Target = at-labeled2.before.before.before.before.before in
     let at-say = at_Target.before.before.before.before in
     let at-labeled = at-say.before.before.before.before.before in
-    puts-as defer-shown (puts_then at-labeled.labeled.ensures (puts_then (at-say.say.ensures _) (puts_then
+    puts_as defer_shown (puts_then at-labeled.labeled.ensures (puts_then (at-say.say.ensures _) (puts_then
     at_Target.target.ensures (puts_then at-labeled2.labeled2.ensures (puts_then at_Listed.listed.ensures
     c.before.before.labeled3.ensures)))))
 
@@ -67,7 +67,7 @@ defer-spec =
     labeled-requires
     slice-aggregate-say
     say-requires
-    target-requires
+    target_requires
     slice-aggregate-labeled-2
     labeled-requires-2
     slice-aggregate-listed

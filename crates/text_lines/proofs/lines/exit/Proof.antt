@@ -1,6 +1,6 @@
 use borrow.Author.Rules.{rules}
-use Rattle.text_cursor.specs.laws.WordsToTextSteps.{puts_then, puts-as}
-use Rattle.text_lines.specs.laws.LineTexts.{exit-shown}
+use Rattle.text_cursor.specs.laws.WordsToTextSteps.{puts_then, puts_as}
+use Rattle.text_lines.specs.laws.LineTexts.{exit_shown}
 use Rattle.text_lines.proofs.lines.exit.Statement.{statement}
 use Rattle.text_lines.proofs.lines.exit.Tie as tie
 
@@ -29,7 +29,7 @@ returns : tie.Need-returns
 returns c =
     let at-labeled2 = c.before.before.before.before.before.before.before in
     let at-labeled = at-labeled2.before.before.before.before.before in
-    puts-as exit-shown (puts_then at-labeled.labeled.ensures (puts_then at-labeled2.labeled2.ensures
+    puts_as exit_shown (puts_then at-labeled.labeled.ensures (puts_then at-labeled2.labeled2.ensures
     c.before.before.listed.ensures))
 
 pub exit-spec : {M : Type 1} → statement M

@@ -35,26 +35,26 @@ returns c = rw c.before.before.before.before.match.keys1 c.before.before.region.
 same-length-2 : tie.Need-same-length-2
 same-length-2 c = search rules
 
-returns-2 : tie.Need-returns-2
-returns-2 c = rw c.before.before.before.before.match.keys2 c.before.before.block.ensures
+returns_2 : tie.Need-returns-2
+returns_2 c = rw c.before.before.before.before.match.keys2 c.before.before.block.ensures
 
 same-length-3 : tie.Need-same-length-3
 same-length-3 c = search rules
 
-returns-3 : tie.Need-returns-3
-returns-3 c = rw c.before.before.before.before.match.keys3 c.before.before.select.ensures
+returns_3 : tie.Need-returns-3
+returns_3 c = rw c.before.before.before.before.match.keys3 c.before.before.select.ensures
 
 same-length-4 : tie.Need-same-length-4
 same-length-4 c = search rules
 
-returns-4 : tie.Need-returns-4
-returns-4 c = rw c.before.before.before.before.match.keys4 c.before.before.loop-line.ensures
+returns_4 : tie.Need-returns-4
+returns_4 c = rw c.before.before.before.before.match.keys4 c.before.before.loop_line.ensures
 
 same-length-5 : tie.Need-same-length-5
 same-length-5 c = search rules
 
-returns-5 : tie.Need-returns-5
-returns-5 c = rw c.before.before.before.before.match.keys5 c.before.before.exit.ensures
+returns_5 : tie.Need-returns-5
+returns_5 c = rw c.before.before.before.before.match.keys5 c.before.before.exit.ensures
 
 same-length-6 : tie.Need-same-length-6
 same-length-6 c = search rules
@@ -79,13 +79,13 @@ line-by-spec =
     same_length
     returns
     same-length-2
-    returns-2
+    returns_2
     same-length-3
-    returns-3
+    returns_3
     same-length-4
-    returns-4
+    returns_4
     same-length-5
-    returns-5
+    returns_5
     same-length-6
     returns-6
     returns-7)

@@ -1,6 +1,6 @@
 use borrow.Author.Rules.{rules}
-use Rattle.text_cursor.specs.laws.WordsToTextSteps.{puts_then, puts-as}
-use Rattle.text_lines.specs.laws.LineTexts.{loop-shown}
+use Rattle.text_cursor.specs.laws.WordsToTextSteps.{puts_then, puts_as}
+use Rattle.text_lines.specs.laws.LineTexts.{loop_shown}
 use Rattle.text_lines.proofs.lines.loop_line.Statement.{statement}
 use Rattle.text_lines.proofs.lines.loop_line.Tie as tie
 
@@ -36,7 +36,7 @@ returns c =
     let at-labeled2 = c.before.before.before.before.before.before.before in
     let at_Listed = at-labeled2.before.before.before.before.before in
     let at-labeled = at_Listed.before.before.before.before.before in
-    puts-as loop-shown (puts_then at-labeled.labeled.ensures (puts_then at_Listed.listed.ensures (puts_then
+    puts_as loop_shown (puts_then at-labeled.labeled.ensures (puts_then at_Listed.listed.ensures (puts_then
     at-labeled2.labeled2.ensures c.before.before.labeled3.ensures)))
 
 pub loop-line-spec : {M : Type 1} → statement M

@@ -1,6 +1,6 @@
 use borrow.Author.Rules.{rules}
-use Rattle.text_cursor.specs.laws.WordsToTextSteps.{puts_then, puts-as}
-use Rattle.text_lines.specs.laws.LineTexts.{twice-shown, first-shown}
+use Rattle.text_cursor.specs.laws.WordsToTextSteps.{puts_then, puts_as}
+use Rattle.text_lines.specs.laws.LineTexts.{twice_shown, first_shown}
 use Rattle.text_lines.proofs.lines.put_first_line.Statement.{statement}
 use Rattle.text_lines.proofs.lines.put_first_line.Tie as tie
 
@@ -29,7 +29,7 @@ returns : tie.Need-returns
 returns c =
     let at-labeled = c.before.before.before.before.before.before.before.before in
     let at-outcome = at-labeled.before.before.before.before.before in
-    puts-as first-shown (puts_then at-outcome.outcome.ensures (puts_then at-labeled.labeled.ensures (puts-as twice-shown
+    puts_as first_shown (puts_then at-outcome.outcome.ensures (puts_then at-labeled.labeled.ensures (puts_as twice_shown
     c.before.before.either.ensures)))
 
 pub put-first-line-spec : {M : Type 1} → statement M

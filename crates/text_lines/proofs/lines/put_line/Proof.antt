@@ -4,8 +4,8 @@ use native.Mathlib.Omega.{arith}
 use borrow.Author.Rules.{rules}
 use Rattle.nesting.specs.decoding.Decode.{next_word}
 use Rattle.text_cursor.specs.Lines.{shown}
-use Rattle.text_cursor.specs.laws.WordsToTextSteps.{puts_then, puts-next, puts-ended}
-use Rattle.text_lines.specs.laws.LineTexts.{line-shown}
+use Rattle.text_cursor.specs.laws.WordsToTextSteps.{puts_then, puts_next, puts_ended}
+use Rattle.text_lines.specs.laws.LineTexts.{line_shown}
 use Rattle.text_lines.proofs.lines.put_line.Statement.{statement}
 use Rattle.text_lines.proofs.lines.put_line.Tie as tie
 
@@ -15,7 +15,7 @@ stop-requires c κs = search rules
 returns : tie.Need-returns
 unfolding shown next_word
 returns c = record {
-  puts = puts-ended refl c.before.if1.true c.stop.ensures;
+  puts = puts_ended refl c.before.if1.true c.stop.ensures;
   on = λ l. absurd
       (omega (arith, c.before.if1.true));
 }
@@ -41,15 +41,15 @@ say-requires c κs = search rules
 same_length : tie.Need-same-length
 same_length c = search rules
 
-returns-2 : tie.Need-returns-2
-returns-2 c =
+returns_2 : tie.Need-returns-2
+returns_2 c =
     let at-line-by = c.before.before.before.before.before.before.before in
     let at-if1 = at-line-by.before.before.before in
     record {
-      puts = puts-next at-if1.if1.false (λ rest. sym (line-shown _ rest))
-          (puts_then at-line-by.line-by.ensures (c.before.before.say.ensures _));
+      puts = puts_next at-if1.if1.false (λ rest. sym (line_shown _ rest))
+          (puts_then at-line-by.line_by.ensures (c.before.before.say.ensures _));
       on = λ l. omega
-          (arith, at-line-by.line-by.ensures.ahead, (c.before.before.say.ensures []).ahead);
+          (arith, at-line-by.line_by.ensures.ahead, (c.before.before.say.ensures []).ahead);
     }
 
 pub put-line-spec : {M : Type 1} → statement M
@@ -65,4 +65,4 @@ put-line-spec =
     slice-aggregate-say
     say-requires
     same_length
-    returns-2)
+    returns_2)

@@ -4,7 +4,7 @@ use Prim.Native.Nat.{◌-◌}
 use native.Mathlib.Omega.{arith}
 use lib.ListN.{length}
 use borrow.Author.Rules.{rules}
-use Rattle.text_lines.specs.laws.SheetTexts.{LinesTurned, lines_start, lines_next, lines-all}
+use Rattle.text_lines.specs.laws.SheetTexts.{LinesTurned, lines_start, lines_next, lines_all}
 use Rattle.text_lines.proofs.lines.put_sheet.Statement.{statement}
 use Rattle.text_lines.proofs.lines.put_sheet.Tie as tie
 
@@ -17,17 +17,17 @@ decreases-loop words text₀ c₀ text c = length words - c.at
 put-first-line-requires : tie.Need-put-first-line-requires invariant-loop decreases-loop
 put-first-line-requires c κs = search rules
 
-loop-holds : tie.Need-loop-init invariant-loop decreases-loop
-loop-holds c = lines_start
+loop_holds : tie.Need-loop-init invariant-loop decreases-loop
+loop_holds c = lines_start
 
 put-line-requires : tie.Need-put-line-requires invariant-loop decreases-loop
 put-line-requires c κs = search rules
 
-loop-less : tie.Need-loop-smaller invariant-loop decreases-loop
-loop-less c = omega (arith, c.before.before.put-line.ensures.on c.before.before.before.before.if1.true)
+loop_less : tie.Need-loop-smaller invariant-loop decreases-loop
+loop_less c = omega (arith, c.before.before.put-line.ensures.on c.before.before.before.before.if1.true)
 
-loop-again : tie.Need-loop-preserved invariant-loop decreases-loop
-loop-again c =
+loop_again : tie.Need-loop-preserved invariant-loop decreases-loop
+loop_again c =
     let at-put-line = c.before.before in
     let at-if = at-put-line.before.before in
     let at-loop = at-if.before.before in
@@ -38,7 +38,7 @@ same_length : tie.Need-same-length invariant-loop decreases-loop
 same_length c = c.before.before.loop.invariant.size ∙ c.before.before.before.before.before.put-first-line.auto.1.0
 
 returns : tie.Need-returns invariant-loop decreases-loop
-returns c = lines-all c.before.before.loop.invariant c.if1.false c.before.before.before.before.before.put-first-line.ensures
+returns c = lines_all c.before.before.loop.invariant c.if1.false c.before.before.before.before.before.put-first-line.ensures
 
 pub put-sheet-spec : {M : Type 1} → statement M
 put-sheet-spec =
@@ -47,9 +47,9 @@ put-sheet-spec =
     invariant-loop
     decreases-loop
     put-first-line-requires
-    loop-holds
+    loop_holds
     put-line-requires
-    loop-less
-    loop-again
+    loop_less
+    loop_again
     same_length
     returns)

@@ -1,6 +1,6 @@
 use borrow.Author.Rules.{rules}
-use Rattle.text_cursor.specs.laws.WordsToTextSteps.{puts_then, puts-as}
-use Rattle.text_lines.specs.laws.LineTexts.{region-shown}
+use Rattle.text_cursor.specs.laws.WordsToTextSteps.{puts_then, puts_as}
+use Rattle.text_lines.specs.laws.LineTexts.{region_shown}
 use Rattle.text_lines.proofs.lines.region.Statement.{statement}
 use Rattle.text_lines.proofs.lines.region.Tie as tie
 
@@ -36,7 +36,7 @@ returns c =
     let at-listed2 = c.before.before.before.before.before.before.before in
     let at_Listed = at-listed2.before.before.before.before.before in
     let at-labeled = at_Listed.before.before.before.before.before in
-    puts-as region-shown (puts_then at-labeled.labeled.ensures (puts_then at_Listed.listed.ensures (puts_then
+    puts_as region_shown (puts_then at-labeled.labeled.ensures (puts_then at_Listed.listed.ensures (puts_then
     at-listed2.listed2.ensures c.before.before.listed3.ensures)))
 
 pub region-spec : {M : Type 1} → statement M

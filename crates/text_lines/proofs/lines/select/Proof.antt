@@ -1,7 +1,7 @@
 use mathlib.Core.Path.{◌∙◌}
 use borrow.Author.Rules.{rules}
-use Rattle.text_cursor.specs.laws.WordsToTextSteps.{puts_then, puts-as}
-use Rattle.text_lines.specs.laws.LineTexts.{kind-shown, select-shown}
+use Rattle.text_cursor.specs.laws.WordsToTextSteps.{puts_then, puts_as}
+use Rattle.text_lines.specs.laws.LineTexts.{kind_shown, select_shown}
 use Rattle.text_lines.proofs.lines.select.Statement.{statement}
 use Rattle.text_lines.proofs.lines.select.Tie as tie
 
@@ -53,7 +53,7 @@ returns c =
     let at-labeled2 = at_Listed.before.before.before.before.before in
     let at-either = at-labeled2.before.before.before.before.before in
     let at-labeled = at-either.before.before.before.before.before.before in
-    puts-as select-shown (puts_then at-labeled.labeled.ensures (puts_then (puts-as kind-shown at-either.either.ensures)
+    puts_as select_shown (puts_then at-labeled.labeled.ensures (puts_then (puts_as kind_shown at-either.either.ensures)
     (puts_then at-labeled2.labeled2.ensures (puts_then at_Listed.listed.ensures c.before.before.listed2.ensures))))
 
 pub select-spec : {M : Type 1} → statement M

@@ -1,6 +1,6 @@
 use borrow.Author.Rules.{rules}
 use Rattle.text.specs.laws.BufferLaws.{◌▸◌}
-use Rattle.text_parts.specs.Listing.{block-text}
+use Rattle.text_parts.specs.Listing.{block_text}
 use Rattle.text_parts.proofs.blocks.put_block.Statement.{statement}
 use Rattle.text_parts.proofs.blocks.put_block.Tie as tie
 
@@ -20,7 +20,7 @@ same_length : tie.Need-same-length
 same_length c = search rules
 
 returns : tie.Need-returns
-unfolding block-text
+unfolding block_text
 returns c =
     let at-put-items = c.before.before.before.before.before.before in
     let at-put-text = at-put-items.before.before.before.before in

@@ -1,8 +1,8 @@
 use mathlib.Core.Path.{ap, ◌∙◌}
 use borrow.Author.Rules.{rules}
 use Rattle.text.specs.Text.{labeled}
-use Rattle.text.specs.laws.BufferLaws.{◌▸◌, of-text}
-use Rattle.text_parts.specs.Listing.{item-listing}
+use Rattle.text.specs.laws.BufferLaws.{◌▸◌, of_text}
+use Rattle.text_parts.specs.Listing.{item_listing}
 use Rattle.text_parts.proofs.blocks.put_item.Statement.{statement}
 use Rattle.text_parts.proofs.blocks.put_item.Tie as tie
 
@@ -56,7 +56,7 @@ same_length c =
     ∙ at-put-labeled2.put-labeled2.auto.0 ∙ at-put-labeled.put-labeled.auto.0 ∙ at-put-dotted.put-dotted.auto.0
 
 returns : tie.Need-returns
-unfolding item-listing labeled
+unfolding item_listing labeled
 returns c =
     let at-put-byte = c.before.before.before.before.before.before in
     let at-put-labeled3 = at-put-byte.before.before.before.before in
@@ -67,9 +67,9 @@ returns c =
     λ g s.
     let x = at-instruction.instruction.ensures g s in
     at-put-dotted.put-dotted.ensures
-    ▸ of-text (ap (λ i. labeled "/" i.opcode) x) at-put-labeled.put-labeled.ensures
-    ▸ of-text (ap (λ i. labeled "/" i.ty) x) at-put-labeled2.put-labeled2.ensures
-    ▸ of-text (ap (λ i. labeled "/" i.cost) x) at-put-labeled3.put-labeled3.ensures
+    ▸ of_text (ap (λ i. labeled "/" i.opcode) x) at-put-labeled.put-labeled.ensures
+    ▸ of_text (ap (λ i. labeled "/" i.ty) x) at-put-labeled2.put-labeled2.ensures
+    ▸ of_text (ap (λ i. labeled "/" i.cost) x) at-put-labeled3.put-labeled3.ensures
     ▸ at-put-byte.put_byte.ensures
     ▸ c.before.before.put-values.ensures g s
 

@@ -2,7 +2,7 @@ use mathlib.Core.Path.{sym, ap, ◌∙◌}
 use lib.ListN.{get_or}
 use borrow.Author.Rules.{rules}
 use Rattle.text_parts.specs.Parts.{numbers_of}
-use Rattle.text_parts.specs.laws.Lists.{target-item}
+use Rattle.text_parts.specs.laws.Lists.{target_item}
 use Rattle.text_parts.proofs.lists.number_item.Statement.{statement}
 use Rattle.text_parts.proofs.lists.number_item.Tie as tie
 
@@ -21,8 +21,8 @@ input-type-requires c κs = search rules
 enum-known-l-2 : tie.Need-enum-known-l-2
 enum-known-l-2 c = search rules
 
-target-requires : tie.Need-target-requires
-target-requires c κs = search rules
+target_requires : tie.Need-target-requires
+target_requires c κs = search rules
 
 enum-known-l-3 : tie.Need-enum-known-l-3
 enum-known-l-3 c = search rules
@@ -35,19 +35,19 @@ returns c =
     λ g s. c.constant-type.ensures g s ∙ ap (λ l. get_or (numbers_of g l) c.before.before.before.args.k 0)
     (sym c.before.enum_told.given.1)
 
-returns-2 : tie.Need-returns-2
-returns-2 c =
+returns_2 : tie.Need-returns-2
+returns_2 c =
     let start = c.before.before.before.before in
     λ g s. c.input-type.ensures g s ∙ ap (λ l. get_or (numbers_of g l) start.args.k 0) (sym c.before.before.l.given.1)
 
-returns-3 : tie.Need-returns-3
-returns-3 c =
+returns_3 : tie.Need-returns-3
+returns_3 c =
     let start = c.before.before.before.before in
-    λ g s. c.target.ensures g s ∙ target-item g _ _ ∙ ap (λ l. get_or (numbers_of g l) start.args.k 0)
+    λ g s. c.target.ensures g s ∙ target_item g _ _ ∙ ap (λ l. get_or (numbers_of g l) start.args.k 0)
     (sym c.before.before.l2.given.1)
 
-returns-4 : tie.Need-returns-4
-returns-4 c =
+returns_4 : tie.Need-returns-4
+returns_4 c =
     let start = c.before.before.before.before in
     λ g s. c.exit-target.ensures g s ∙ ap (λ l. get_or (numbers_of g l) start.args.k 0) (sym c.before.before.l3.given.1)
 
@@ -60,10 +60,10 @@ number-item-spec =
     enum-known-l
     input-type-requires
     enum-known-l-2
-    target-requires
+    target_requires
     enum-known-l-3
     exit-target-requires
     returns
-    returns-2
-    returns-3
-    returns-4)
+    returns_2
+    returns_3
+    returns_4)

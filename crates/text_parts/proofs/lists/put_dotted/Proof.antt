@@ -1,6 +1,6 @@
 use borrow.Author.Rules.{rules}
 use Rattle.text.specs.laws.BufferLaws.{◌▸◌}
-use Rattle.text_parts.specs.Listing.{dotted-text}
+use Rattle.text_parts.specs.Listing.{dotted_text}
 use Rattle.text_parts.proofs.lists.put_dotted.Statement.{statement}
 use Rattle.text_parts.proofs.lists.put_dotted.Tie as tie
 
@@ -17,7 +17,7 @@ same_length : tie.Need-same-length
 same_length c = search rules
 
 returns : tie.Need-returns
-unfolding dotted-text
+unfolding dotted_text
 returns c =
     let at-put-number = c.before.before.before.before.before.before.before in
     at-put-number.put-number.ensures ▸ c.before.before.put-labeled.ensures

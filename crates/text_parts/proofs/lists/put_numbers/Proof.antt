@@ -6,20 +6,20 @@ use lib.ListN.{length, drop}
 use borrow.Author.Rules.{rules}
 use Rattle.meaning.specs.Text.{decimal, ascii}
 use Rattle.record.specs.Stands.{OfRecord}
-use Rattle.text.specs.laws.Lists.{other, wrote-empty, wrote-listed, wrote-next, wrote-all}
+use Rattle.text.specs.laws.Lists.{other, wrote_empty, wrote_listed, wrote_next, wrote_all}
 use Rattle.text.specs.Buffer.{Buffer, buffer, Wrote}
-use Rattle.text.specs.laws.BufferLaws.{of-text}
-use Rattle.text.specs.Text.{text-of-each}
+use Rattle.text.specs.laws.BufferLaws.{of_text}
+use Rattle.text.specs.Text.{text_of_each}
 use Rattle.text_parts.specs.Parts.{numbers_of}
-use Rattle.text_parts.specs.Listing.{numbers-text}
+use Rattle.text_parts.specs.Listing.{numbers_text}
 use Rattle.text_parts.proofs.lists.put_numbers.Statement.{statement}
 use Rattle.text_parts.proofs.lists.put_numbers.Tie as tie
 
 abbrev invariant-loop : tie.invariant-loop
 invariant-loop w out₀ at l n place₀ k₀ t8 out place k =
     (k ≤ n) × ((length out ≡ length out₀) × OfRecord w (λ g. (q : Buffer)
-    → Wrote (buffer out place) (text-of-each (other decimal) (drop k (numbers_of g l))) q
-    → Wrote (buffer out₀ place₀) (text-of-each (other decimal) (drop 1 (numbers_of g l))) q))
+    → Wrote (buffer out place) (text_of_each (other decimal) (drop k (numbers_of g l))) q
+    → Wrote (buffer out₀ place₀) (text_of_each (other decimal) (drop 1 (numbers_of g l))) q))
 
 abbrev decreases-loop : tie.decreases-loop
 decreases-loop w out₀ at l n place₀ k₀ t8 out place k = n - k
@@ -34,12 +34,12 @@ same_length : tie.Need-same-length invariant-loop decreases-loop
 same_length c = c.before.before.put_byte.auto.0
 
 returns : tie.Need-returns invariant-loop decreases-loop
-unfolding numbers-text
+unfolding numbers_text
 returns c =
     let at-if1 = c.before.before.before.before in
     let at-number-count = at-if1.before in
     let start = at-number-count.before.before in
-    λ g s. wrote-empty decimal (numbers_of g start.args.l) (sym (at-number-count.number-count.ensures g s) ∙ at-if1.if1.true)
+    λ g s. wrote_empty decimal (numbers_of g start.args.l) (sym (at-number-count.number-count.ensures g s) ∙ at-if1.if1.true)
     c.before.before.put_byte.ensures
 
 number-item-requires : tie.Need-number-item-requires invariant-loop decreases-loop
@@ -51,8 +51,8 @@ cast-put-number c = search rules
 put-number-requires : tie.Need-put-number-requires invariant-loop decreases-loop
 put-number-requires c κs = search rules
 
-loop-holds : tie.Need-loop-init invariant-loop decreases-loop
-loop-holds c = (omega arith, (refl, λ g s q w. w))
+loop_holds : tie.Need-loop-init invariant-loop decreases-loop
+loop_holds c = (omega arith, (refl, λ g s q w. w))
 
 slice-aggregate-put-labeled : tie.Need-slice-aggregate-put-labeled invariant-loop decreases-loop
 slice-aggregate-put-labeled c = refl
@@ -69,11 +69,11 @@ put-labeled-requires c κs = search rules
 add-k : tie.Need-overflow-add-k invariant-loop decreases-loop
 add-k c = omega arith
 
-loop-less : tie.Need-loop-smaller invariant-loop decreases-loop
-loop-less c = omega arith
+loop_less : tie.Need-loop-smaller invariant-loop decreases-loop
+loop_less c = omega arith
 
-loop-again : tie.Need-loop-preserved invariant-loop decreases-loop
-loop-again c =
+loop_again : tie.Need-loop-preserved invariant-loop decreases-loop
+loop_again c =
     let at-loop = c.before.before.before.before.before.before.before in
     let at-number-count = at-loop.before.before.before.before.before.before.before in
     let start = at-number-count.before.before in (
@@ -83,9 +83,9 @@ loop-again c =
         λ g s q w.
             let xs = numbers_of g start.args.l in
             at-loop.loop.invariant.1.1 g s q
-            (wrote-next (other decimal) 0 xs at-loop.loop.k
+            (wrote_next (other decimal) 0 xs at-loop.loop.k
             (omega (arith, at-number-count.number-count.ensures g s))
-            (of-text (ap (λ n. ascii "," ++ decimal n) (c.before.before.before.number-item2.ensures g s))
+            (of_text (ap (λ n. ascii "," ++ decimal n) (c.before.before.before.number-item2.ensures g s))
             c.before.before.put-labeled.ensures)
             w),
       ),
@@ -96,9 +96,9 @@ same-length-2 c =
     let at-put-number = c.before.before.before.before in
     c.before.loop.invariant.1.0 ∙ at-put-number.put-number.auto.0
 
-returns-2 : tie.Need-returns-2 invariant-loop decreases-loop
-unfolding numbers-text
-returns-2 c =
+returns_2 : tie.Need-returns-2 invariant-loop decreases-loop
+unfolding numbers_text
+returns_2 c =
     let at-put-number = c.before.before.before.before in
     let at-number-item = at-put-number.before in
     let at-number-count = at-number-item.before.before.before in
@@ -106,10 +106,10 @@ returns-2 c =
     λ g s.
     let xs = numbers_of g start.args.l in
     let size = at-number-count.number-count.ensures g s in
-    wrote-listed decimal 0 xs (omega arith)
-    (of-text (ap decimal (at-number-item.number-item.ensures g s))
+    wrote_listed decimal 0 xs (omega arith)
+    (of_text (ap decimal (at-number-item.number-item.ensures g s))
     at-put-number.put-number.ensures)
-    (c.before.loop.invariant.1.1 g s _ (wrote-all (other decimal) xs c.before.loop.k (omega arith)))
+    (c.before.loop.invariant.1.1 g s _ (wrote_all (other decimal) xs c.before.loop.k (omega arith)))
 
 pub put-numbers-spec : {M : Type 1} → statement M
 put-numbers-spec =
@@ -124,13 +124,13 @@ put-numbers-spec =
     number-item-requires
     cast-put-number
     put-number-requires
-    loop-holds
+    loop_holds
     slice-aggregate-put-labeled
     number-item-requires-2
     cast-put-labeled
     put-labeled-requires
     add-k
-    loop-less
-    loop-again
+    loop_less
+    loop_again
     same-length-2
-    returns-2)
+    returns_2)

@@ -1,9 +1,9 @@
 use mathlib.Core.Path.{sym, ap, refl, ◌∙◌}
 use borrow.Author.Rules.{rules}
-use Rattle.fields.specs.Shape.{value-is}
+use Rattle.fields.specs.Shape.{value_is}
 use Rattle.text.specs.Text.{labeled}
-use Rattle.text.specs.laws.BufferLaws.{of-text}
-use Rattle.text_parts.specs.Listing.{value-listing}
+use Rattle.text.specs.laws.BufferLaws.{of_text}
+use Rattle.text_parts.specs.Listing.{value_listing}
 use Rattle.text_parts.proofs.lists.put_value.Statement.{statement}
 use Rattle.text_parts.proofs.lists.put_value.Tie as tie
 
@@ -44,11 +44,11 @@ same_length : tie.Need-same-length
 same_length c = search rules
 
 returns : tie.Need-returns
-unfolding value-listing labeled
+unfolding value_listing labeled
 returns c =
     let at-if1 = c.before.before.before.before.before in
     let at-v4 = at-if1.before.before in
-    of-text (sym (ap (λ v. value-listing (value-is v)) at-v4.v4.given.1 ∙ rw at-if1.if1.true refl))
+    of_text (sym (ap (λ v. value_listing (value_is v)) at-v4.v4.given.1 ∙ rw at-if1.if1.true refl))
     c.before.before.put-text.ensures
 
 slice-aggregate-put-text-2 : tie.Need-slice-aggregate-put-text-2
@@ -81,58 +81,58 @@ put-labeled-requires-3 c κs = search rules
 same-length-2 : tie.Need-same-length-2
 same-length-2 c = search rules
 
-returns-2 : tie.Need-returns-2
-unfolding value-listing labeled
-returns-2 c =
+returns_2 : tie.Need-returns-2
+unfolding value_listing labeled
+returns_2 c =
     let at-v = c.before.before.before.before.before.before in
-    of-text (sym (ap (λ v. value-listing (value-is v)) at-v.v.given.1)) c.before.before.put-labeled.ensures
+    of_text (sym (ap (λ v. value_listing (value_is v)) at-v.v.given.1)) c.before.before.put-labeled.ensures
 
 same-length-3 : tie.Need-same-length-3
 same-length-3 c = search rules
 
-returns-3 : tie.Need-returns-3
-unfolding value-listing
-returns-3 c =
+returns_3 : tie.Need-returns-3
+unfolding value_listing
+returns_3 c =
     let at-v2 = c.before.before.before.before.before in
-    of-text (sym (ap (λ v. value-listing (value-is v)) at-v2.v2.given.1)) c.before.before.put-of-region.ensures
+    of_text (sym (ap (λ v. value_listing (value_is v)) at-v2.v2.given.1)) c.before.before.put-of-region.ensures
 
 same-length-4 : tie.Need-same-length-4
 same-length-4 c = search rules
 
-returns-4 : tie.Need-returns-4
-unfolding value-listing
-returns-4 c =
+returns_4 : tie.Need-returns-4
+unfolding value_listing
+returns_4 c =
     let at-v3 = c.before.before.before.before.before in
-    of-text (sym (ap (λ v. value-listing (value-is v)) at-v3.v3.given.1)) c.before.before.put-of-region2.ensures
+    of_text (sym (ap (λ v. value_listing (value_is v)) at-v3.v3.given.1)) c.before.before.put-of-region2.ensures
 
 same-length-5 : tie.Need-same-length-5
 same-length-5 c = search rules
 
-returns-5 : tie.Need-returns-5
-unfolding value-listing
-returns-5 c =
+returns_5 : tie.Need-returns-5
+unfolding value_listing
+returns_5 c =
     let at-if1 = c.before.before.before.before.before in
     let at-v4 = at-if1.before.before in
-    of-text (sym (ap (λ v. value-listing (value-is v)) at-v4.v4.given.1 ∙ rw at-if1.if1.false refl))
+    of_text (sym (ap (λ v. value_listing (value_is v)) at-v4.v4.given.1 ∙ rw at-if1.if1.false refl))
     c.before.before.put-text2.ensures
 
 same-length-6 : tie.Need-same-length-6
 same-length-6 c = search rules
 
 returns-6 : tie.Need-returns-6
-unfolding value-listing labeled
+unfolding value_listing labeled
 returns-6 c =
     let at-v5 = c.before.before.before.before.before.before in
-    of-text (sym (ap (λ v. value-listing (value-is v)) at-v5.v5.given.1)) c.before.before.put-labeled2.ensures
+    of_text (sym (ap (λ v. value_listing (value_is v)) at-v5.v5.given.1)) c.before.before.put-labeled2.ensures
 
 same-length-7 : tie.Need-same-length-7
 same-length-7 c = search rules
 
 returns-7 : tie.Need-returns-7
-unfolding value-listing labeled
+unfolding value_listing labeled
 returns-7 c =
     let at-enum-told = c.before.before.before.before.before in
-    of-text (sym (ap (λ v. value-listing (value-is v)) at-enum-told.enum_told.given.1)) c.before.before.put-labeled3.ensures
+    of_text (sym (ap (λ v. value_listing (value_is v)) at-enum-told.enum_told.given.1)) c.before.before.put-labeled3.ensures
 
 pub put-value-spec : {M : Type 1} → statement M
 put-value-spec =
@@ -161,13 +161,13 @@ put-value-spec =
     slice-aggregate-put-labeled-3
     put-labeled-requires-3
     same-length-2
-    returns-2
+    returns_2
     same-length-3
-    returns-3
+    returns_3
     same-length-4
-    returns-4
+    returns_4
     same-length-5
-    returns-5
+    returns_5
     same-length-6
     returns-6
     same-length-7

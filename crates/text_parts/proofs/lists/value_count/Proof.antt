@@ -26,12 +26,12 @@ passed-count-requires c κs = search rules
 returns : tie.Need-returns
 returns c = λ g s. c.value-count.ensures g s ∙ ap (λ l. length (list_of g l)) (sym c.before.before.l.given.1)
 
-returns-2 : tie.Need-returns-2
-returns-2 c =
+returns_2 : tie.Need-returns-2
+returns_2 c =
     λ g s. ap (λ x. x.reads) (c.instruction.ensures g s) ∙ ap (λ l. length (list_of g l)) (sym c.before.before.l2.given.1)
 
-returns-3 : tie.Need-returns-3
-returns-3 c = λ g s. c.passed-count.ensures g s ∙ ap (λ l. length (list_of g l)) (sym c.before.before.l3.given.1)
+returns_3 : tie.Need-returns-3
+returns_3 c = λ g s. c.passed-count.ensures g s ∙ ap (λ l. length (list_of g l)) (sym c.before.before.l3.given.1)
 
 pub value-count-spec : {M : Type 1} → statement M
 value-count-spec =
@@ -44,5 +44,5 @@ value-count-spec =
     enum-known-l-3
     passed-count-requires
     returns
-    returns-2
-    returns-3)
+    returns_2
+    returns_3)

@@ -29,13 +29,13 @@ returns c =
     let start = c.before.before.before.before in
     λ g s. c.value.ensures g s ∙ ap (λ l. get_or (list_of g l) start.args.k no_value) (sym c.before.before.l.given.1)
 
-returns-2 : tie.Need-returns-2
-returns-2 c =
+returns_2 : tie.Need-returns-2
+returns_2 c =
     let start = c.before.before.before.before in
     λ g s. c.read.ensures g s ∙ ap (λ l. get_or (list_of g l) start.args.k no_value) (sym c.before.before.l2.given.1)
 
-returns-3 : tie.Need-returns-3
-returns-3 c =
+returns_3 : tie.Need-returns-3
+returns_3 c =
     let start = c.before.before.before.before in
     λ g s. c.passed.ensures g s ∙ ap (λ l. get_or (list_of g l) start.args.k no_value) (sym c.before.before.l3.given.1)
 
@@ -50,5 +50,5 @@ value-item-spec =
     enum-known-l-3
     passed-requires
     returns
-    returns-2
-    returns-3)
+    returns_2
+    returns_3)

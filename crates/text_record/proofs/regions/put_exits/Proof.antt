@@ -1,6 +1,6 @@
 use borrow.Author.Rules.{rules}
 use Rattle.text.specs.laws.BufferLaws.{◌▸◌}
-use Rattle.text_parts.specs.Listing.{exits-line}
+use Rattle.text_parts.specs.Listing.{exits_line}
 use Rattle.text_record.proofs.regions.put_exits.Statement.{statement}
 use Rattle.text_record.proofs.regions.put_exits.Tie as tie
 
@@ -20,7 +20,7 @@ same_length : tie.Need-same-length
 same_length c = search rules
 
 returns : tie.Need-returns
-unfolding exits-line
+unfolding exits_line
 returns c =
     let at-put-numbers = c.before.before.before.before.before.before in
     let at-put-text = at-put-numbers.before.before.before.before in

@@ -1,16 +1,16 @@
 use mathlib.Core.Path.{ap}
 use borrow.Author.Rules.{rules}
 use Rattle.text.specs.Text.{labeled}
-use Rattle.text.specs.laws.BufferLaws.{◌▸◌, of-text}
-use Rattle.text_parts.specs.Listing.{pass-text}
+use Rattle.text.specs.laws.BufferLaws.{◌▸◌, of_text}
+use Rattle.text_parts.specs.Listing.{pass_text}
 use Rattle.text_record.proofs.regions.put_pass.Statement.{statement}
 use Rattle.text_record.proofs.regions.put_pass.Tie as tie
 
 slice-aggregate-put-labeled : tie.Need-slice-aggregate-put-labeled
 slice-aggregate-put-labeled c = search rules
 
-target-requires : tie.Need-target-requires
-target-requires c κs = search rules
+target_requires : tie.Need-target-requires
+target_requires c κs = search rules
 
 cast-put-labeled : tie.Need-overflow-cast-put-labeled
 cast-put-labeled c = search rules
@@ -34,14 +34,14 @@ same_length : tie.Need-same-length
 same_length c = search rules
 
 returns : tie.Need-returns
-unfolding pass-text labeled
+unfolding pass_text labeled
 returns c =
     let at-put-values = c.before.before.before.before.before.before in
     let at-put-text = at-put-values.before.before.before.before in
     let at-put-labeled = at-put-text.before.before.before.before.before in
     let at_Target = at-put-labeled.before in
     λ g s.
-    of-text (ap (labeled "pass ") (at_Target.target.ensures g s)) at-put-labeled.put-labeled.ensures
+    of_text (ap (labeled "pass ") (at_Target.target.ensures g s)) at-put-labeled.put-labeled.ensures
     ▸ at-put-text.put-text.ensures
     ▸ at-put-values.put-values.ensures g s
     ▸ c.before.before.put_byte.ensures
@@ -51,7 +51,7 @@ put-pass-spec =
     tie.close
     (tie.spec
     slice-aggregate-put-labeled
-    target-requires
+    target_requires
     cast-put-labeled
     put-labeled-requires
     slice-aggregate-put-text

@@ -1,6 +1,6 @@
 use borrow.Author.Rules.{rules}
 use Rattle.text.specs.laws.BufferLaws.{◌▸◌}
-use Rattle.text_parts.specs.Listing.{region-text}
+use Rattle.text_parts.specs.Listing.{region_text}
 use Rattle.text_record.proofs.regions.put_region.Statement.{statement}
 use Rattle.text_record.proofs.regions.put_region.Tie as tie
 
@@ -23,7 +23,7 @@ same_length : tie.Need-same-length
 same_length c = search rules
 
 returns : tie.Need-returns
-unfolding region-text
+unfolding region_text
 returns c =
     let at-put-passes = c.before.before.before.before.before.before in
     let at-put-terminator = at-put-passes.before.before.before.before in

@@ -1,8 +1,8 @@
 use mathlib.Core.Path.{ap}
 use borrow.Author.Rules.{rules}
 use Rattle.text.specs.Text.{labeled}
-use Rattle.text.specs.laws.BufferLaws.{◌▸◌, of-text}
-use Rattle.text_parts.specs.Listing.{region-line-text}
+use Rattle.text.specs.laws.BufferLaws.{◌▸◌, of_text}
+use Rattle.text_parts.specs.Listing.{region_line_text}
 use Rattle.text_record.proofs.regions.put_region_head.Statement.{statement}
 use Rattle.text_record.proofs.regions.put_region_head.Tie as tie
 
@@ -40,7 +40,7 @@ same_length : tie.Need-same-length
 same_length c = search rules
 
 returns : tie.Need-returns
-unfolding region-line-text labeled
+unfolding region_line_text labeled
 returns c =
     let at-put-labeled2 = c.before.before.before.before.before.before in
     let at-limit = at-put-labeled2.before in
@@ -51,7 +51,7 @@ returns c =
     at-put-labeled.put-labeled.ensures
     ▸ at-put-text.put-text.ensures
     ▸ at-put-numbers.put-numbers.ensures g s
-    ▸ of-text (ap (labeled " limit ") (at-limit.limit.ensures g s)) at-put-labeled2.put-labeled2.ensures
+    ▸ of_text (ap (labeled " limit ") (at-limit.limit.ensures g s)) at-put-labeled2.put-labeled2.ensures
     ▸ c.before.before.put_byte.ensures
 
 pub put-region-head-spec : {M : Type 1} → statement M

@@ -1,7 +1,7 @@
 use mathlib.Core.Path.{ap}
 use borrow.Author.Rules.{rules}
-use Rattle.text.specs.laws.BufferLaws.{◌▸◌, of-text}
-use Rattle.text_parts.specs.Listing.{value-listing}
+use Rattle.text.specs.laws.BufferLaws.{◌▸◌, of_text}
+use Rattle.text_parts.specs.Listing.{value_listing}
 use Rattle.text_record.proofs.regions.put_select.Statement.{statement}
 use Rattle.text_record.proofs.regions.put_select.Tie as tie
 
@@ -38,7 +38,7 @@ returns c =
     let at-put-text = at_value.before.before.before.before in
     λ g s.
     at-put-text.put-text.ensures
-    ▸ of-text (ap value-listing (at_value.value.ensures g s)) at-put-value.put-value.ensures
+    ▸ of_text (ap value_listing (at_value.value.ensures g s)) at-put-value.put-value.ensures
     ▸ at-put-text2.put-text2.ensures
     ▸ at-put-numbers.put-numbers.ensures g s
     ▸ c.before.before.put_byte.ensures
