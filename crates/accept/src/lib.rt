@@ -1,4 +1,6 @@
 // From a store's bytes to the loaded and checked record: refusals 1 to 8.
+#![tactic(auto)]
+
 ghost use Rattle.std.specs.Prelude.{◌≡◌};
 ghost use Rattle.store.specs.Refusals.{refused_as};
 ghost use Rattle.accept.specs.Accepts.{accept_answered, Accepts, ReadChecked};
@@ -7,7 +9,7 @@ use store::refusals::{number, word};
 use store::{Loaded, Refusal, Verdict, WORDS, tells_length};
 
 // The record stands in the lent words, or a refusal's number and its word.
-#[derive(Drop)]
+#[derive(Clone, Copy)]
 pub enum Accepted {
     Record,
     Refused(u16, u16),

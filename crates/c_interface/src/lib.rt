@@ -1,4 +1,6 @@
 // The public routines for C and Rust, under plain names. Each is lent the one nesting state, and lends its words on: no copy is made.
+#![tactic(auto)]
+
 ghost use Rattle.std.specs.Prelude.{◌≡◌, ◌<◌};
 ghost use Rattle.c_interface.specs.Exported.{AcceptExported, NestExported, WriteExported};
 

@@ -17,7 +17,7 @@ use state_words::edges::ONE;
 use store::{Refusal, WORDS};
 
 // Document 01's four outcomes, in its order; or a refusal.
-#[derive(Drop)]
+#[derive(Clone, Copy)]
 pub enum Nested {
     Untouched,
     Whole,

@@ -1,4 +1,6 @@
 // Incoming edge counts, of edges from regions that the entry reaches: the Rust's incoming_edge_counts_including_loop_exits.
+#![tactic(auto)]
+
 ghost use Rattle.std.specs.Prelude.{◌≡◌, true, ◌∷◌, ◌++◌, ℕ, suc, ◌+◌, ◌≤◌, ◌<◌, min, length, get_or};
 ghost use Rattle.meaning.specs.Graph.{region, edges_of, targets_of};
 ghost use Rattle.meaning.specs.Lists.{total};

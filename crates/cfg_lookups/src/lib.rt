@@ -1,3 +1,5 @@
 // Look-ups, and lazy conditions made real.
+#![tactic(auto)]
+
 pub mod look_up;
 pub mod materialize;

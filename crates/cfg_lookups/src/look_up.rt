@@ -10,7 +10,7 @@ use state_words::values::{input_index, input_region, is_held, is_input};
 use store::WORDS;
 
 // What a look_up answers; and whether a marked value was met whose second look_up would change it.
-#[derive(Drop)]
+#[derive(Clone, Copy)]
 pub struct LookUp {
     pub value: u16,
     pub twice: bool,

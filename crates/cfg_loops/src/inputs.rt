@@ -11,7 +11,7 @@ use state_words::values::{held, input};
 use store::WORDS;
 
 // The definition's LoopInputs, so far: how many are kept, and their cells; and the word of the last one's entry.
-#[derive(Drop)]
+#[derive(Clone, Copy)]
 pub struct LoopInputs {
     pub count: u16,
     pub cells: Handle,

@@ -16,7 +16,7 @@ use state_words::edges::IncomingEdgeCount;
 use store::{Refusal, WORDS};
 
 // What a claim answers: the region is claimed, or the bundle is handed back as it was, or a refusal.
-#[derive(Drop)]
+#[derive(Clone, Copy)]
 pub enum Claim {
     Claimed,
     Unclaimed,

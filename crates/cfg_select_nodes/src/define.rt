@@ -12,7 +12,7 @@ use state_words::handles::Handle;
 use store::WORDS;
 
 // The Rust's Result<Value, &LazyCond>.
-#[derive(Drop)]
+#[derive(Clone, Copy)]
 pub enum Scrutinee {
     Value(u16),
     Lazy(u16),

@@ -1,4 +1,6 @@
 // The nesting state before the first claim: nothing begun, nothing rewritten, blocks counted.
+#![tactic(auto)]
+
 ghost use Rattle.std.specs.Prelude.{◌≡◌, min};
 ghost use Rattle.record.specs.Stands.{OfRecord};
 ghost use Rattle.cfg_start.specs.InitialState as words;

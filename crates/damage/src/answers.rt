@@ -8,7 +8,7 @@ use accept::Accepted;
 use store::WORDS;
 use text::Written;
 
-#[derive(Drop)]
+#[derive(Clone, Copy)]
 pub struct Brief {
     pub number: u8,
     pub word: u8,

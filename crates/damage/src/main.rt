@@ -1,5 +1,7 @@
 // Every single-bit change of a store of one block, as it is and with its check made right again, and every length of a long
 // store: how many of their answers agree with those of a list on standard input.
+#![tactic(auto)]
+
 mod answers;
 mod changes;
 

@@ -1,5 +1,7 @@
 // An accepted record's fields, by the words that it stands in and the index behind them. Each accessor takes any words and any
 // numbers; a number that names nothing gets the definition's answer for it: 0, an empty list, Nothing, an unreachable region.
+#![tactic(auto)]
+
 ghost use Rattle.std.specs.Prelude.{◌≡◌, ◌*◌, ◌≤◌, length, get_or};
 ghost use Rattle.meaning.specs.Graph.{no_value, region, edges_of, targets_of};
 ghost use Rattle.format.specs.References.{instructions, instr_type};

@@ -1,7 +1,7 @@
 // What the accessors answer with.
 
 // Kinds 0, 1, 2, 4 and 5 of document 01; Nothing is what names nothing, and what stands at an index beyond a list.
-#[derive(Drop)]
+#[derive(Clone, Copy)]
 pub enum Value {
     Const(u16),
     Input(u16, u16),
@@ -12,7 +12,7 @@ pub enum Value {
 }
 
 // `ty` is 0 where there is no output; `reads` is their number.
-#[derive(Drop)]
+#[derive(Clone, Copy)]
 pub struct Instruction {
     pub opcode: u16,
     pub ty: u16,
@@ -21,7 +21,7 @@ pub struct Instruction {
 }
 
 // Kinds 0 to 5; an opcode stands for ExitInvocation only.
-#[derive(Drop)]
+#[derive(Clone, Copy)]
 pub enum Terminator {
     Unreachable,
     Return,

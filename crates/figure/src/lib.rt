@@ -1,4 +1,6 @@
 // The figure of a nested form: what a run can cost at most. Beyond 4,294,967,295 it is 4,294,967,296, whatever it exceeds.
+#![tactic(auto)]
+
 ghost use Rattle.std.specs.Prelude.{◌≡◌, ◌≤◌, max};
 ghost use Rattle.figure.specs.Figured as figured;
 

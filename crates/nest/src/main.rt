@@ -1,4 +1,6 @@
 // Reads a store from standard input and prints its sheet, or its refusal. It lends 16,384 words.
+#![tactic(auto)]
+
 use libc::{STDERR_FILENO, STDOUT_FILENO};
 use store::WORDS;
 use streams::{read_input, text_size};

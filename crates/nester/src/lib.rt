@@ -1,4 +1,6 @@
 // The public routine: from a store's bytes to the sheet in lent words, or a refusal.
+#![tactic(auto)]
+
 ghost use Rattle.std.specs.Prelude.{◌≡◌};
 ghost use Rattle.cfg_claims.specs.Claims.{Stood};
 ghost use Rattle.format.specs.Valid.{Valid};
@@ -15,7 +17,7 @@ use store::refusals::{FIGURE_TOO_LARGE, TOO_FEW_WORDS, number, word};
 use store::{Refusal, WORDS, tells_length};
 
 // How many words the sheet has, or a refusal's number and its word.
-#[derive(Drop)]
+#[derive(Clone, Copy)]
 pub enum SheetAnswer {
     Sheet(u32),
     Refused(u16, u16),

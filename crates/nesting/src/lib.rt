@@ -1,4 +1,5 @@
 // The numbers of a sheet's words, 32 bits each (document 01, "The printed sheet"); nothing is computed here.
+#![tactic(auto)]
 
 // What leads a line.
 pub const LEAD_REGION: u32 = 0;

@@ -9,21 +9,21 @@ use store::refusals::{OUT_OF_RANGE, WRONG_WORD_COUNT};
 use store::{WORDS, tells_length};
 
 // Where reading stands: the next word to read, and the end of the record's words.
-#[derive(Drop)]
+#[derive(Clone, Copy)]
 pub struct Cursor {
     pub at: usize,
     pub end: usize,
 }
 
 // A word and the cursor behind it, or the refusal's number.
-#[derive(Drop)]
+#[derive(Clone, Copy)]
 pub enum Item {
     Word(u16, Cursor),
     Bad(u16),
 }
 
 // The cursor behind what was read, or the refusal's number.
-#[derive(Drop)]
+#[derive(Clone, Copy)]
 pub enum Step {
     At(Cursor),
     Bad(u16),

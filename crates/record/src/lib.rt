@@ -1,4 +1,6 @@
 // Reading a record's words: refusals 4 and 5 of document 01, and the index of the places where its regions begin.
+#![tactic(auto)]
+
 mod index;
 pub mod regions;
 

@@ -10,14 +10,14 @@ use reading::words::{Cursor, Item, Step, counted_types, counted_words, within, w
 use store::{WORDS, tells_length};
 
 // The cursor behind some blocks, and the place of each.
-#[derive(Drop)]
+#[derive(Clone, Copy)]
 pub struct BlockPlaces {
     pub step: Step,
     pub places: [u16; 8],
 }
 
 // The cursor behind a region, and the places within it that the index keeps.
-#[derive(Drop)]
+#[derive(Clone, Copy)]
 pub struct RegionPlaces {
     pub step: Step,
     pub limit: u16,

@@ -1,4 +1,6 @@
 // References in record order: refusals 6, 7 and 8 (document 01, "What turns a record away").
+#![tactic(auto)]
+
 ghost use Rattle.std.specs.Prelude.{◌≡◌, [], ◌≤◌};
 ghost use Rattle.meaning.specs.Graph.{region, edges_of};
 ghost use Rattle.format.specs.References as format;

@@ -1,4 +1,6 @@
 // Replays a list of stores with their answers, read from standard input, and prints how many agree.
+#![tactic(auto)]
+
 ghost use Rattle.std.specs.Prelude.{◌≡◌, ◌≤◌, [], ◌∷◌, length, take};
 ghost use Rattle.vectors.specs.Reading.{Reads};
 ghost use Rattle.replay.specs.Agrees.{of_sheet, is_shown, agrees};

@@ -1,2 +1,4 @@
 // Listed sheets, beside what nesting leaves in lent words and prints.
+#![tactic(auto)]
+
 pub mod sheets;

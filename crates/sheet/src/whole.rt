@@ -24,7 +24,7 @@ const FAR: usize = 1099511627776;
 const MOST: usize = 4294967295;
 
 // How many words were written, or that the lent words are too few.
-#[derive(Drop)]
+#[derive(Clone, Copy)]
 pub enum Sheet {
     Words(u32),
     TooFew,

@@ -1,4 +1,6 @@
 // The line of a region, and the numbers of a list's child nodes in it, with their count in front.
+#![tactic(auto)]
+
 ghost use Rattle.std.specs.Prelude.{◌≡◌, [], ◌∷◌, ◌+◌};
 ghost use Rattle.sheet_words.specs.Parts.{most};
 ghost use Rattle.sheet_regions.specs.Numbers as numbers;
@@ -14,7 +16,7 @@ use state_words::handles::Handle;
 use store::WORDS;
 
 // Where the next number ends, and how many were put.
-#[derive(Drop)]
+#[derive(Clone, Copy)]
 pub struct Counted {
     pub at: Place,
     pub count: u32,

@@ -9,7 +9,7 @@ use state_words::handles::Handle;
 use store::WORDS;
 
 // The inputs that a line names: a case's region has none, a piece of the answer all of the record's, a loop's body those that are kept.
-#[derive(Drop)]
+#[derive(Clone, Copy)]
 pub enum RegionInputs {
     None,
     All,

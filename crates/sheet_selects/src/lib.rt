@@ -1,4 +1,6 @@
 // The line of a select, and the region lines of its cases.
+#![tactic(auto)]
+
 ghost use Rattle.std.specs.Prelude.{◌≡◌};
 ghost use Rattle.sheet_words.specs.PutInFront.{Puts};
 ghost use Rattle.sheet_selects.specs.OwnOutputs as outputs;

@@ -4,7 +4,7 @@ ghost use Rattle.nesting.specs.Nesting.{plain};
 ghost use Rattle.sheet_words.specs.PutInFront as words;
 
 // The end of what is still to be put, and whether a value was met that counts for `twice`.
-#[derive(Drop)]
+#[derive(Clone, Copy)]
 pub struct Place {
     pub end: usize,
     pub twice: bool,

@@ -1,4 +1,6 @@
 // Reads a store from standard input and prints its refusal, or its record as text.
+#![tactic(auto)]
+
 use libc::{STDERR_FILENO, STDOUT_FILENO};
 use store::WORDS;
 use streams::{read_input, text_size};

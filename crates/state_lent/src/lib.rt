@@ -1,4 +1,6 @@
 // The nesting state as an outer function is lent it: one array, in which all of a nesting stands (docs/STATE.md).
+#![tactic(auto)]
+
 use store::WORDS;
 
 #[repr(C)]

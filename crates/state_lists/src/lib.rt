@@ -1,4 +1,6 @@
 // Lists of child nodes and of a select's cases, along their cells.
+#![tactic(auto)]
+
 ghost use Rattle.std.specs.Prelude.{◌≡◌};
 ghost use Rattle.state_lists.specs.CellByCell as cells;
 

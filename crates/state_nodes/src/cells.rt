@@ -33,7 +33,7 @@ const KEPT: u16 = 7;
 const MOST_CELLS: u16 = 652;
 
 // A cell by its tag. What a list or the cases name is an earlier cell.
-#[derive(Drop)]
+#[derive(Clone, Copy)]
 pub enum Cell {
     Blocks {
         region: u16,

@@ -23,7 +23,7 @@ pub const CLAIMED_REGION: u16 = 2;
 pub const OTHERS: u16 = 3;
 
 // A case: its kind; of a claimed region its number, structured body and children; where its set starts, and how many bundles it has.
-#[derive(Drop)]
+#[derive(Clone, Copy)]
 pub struct Case {
     pub kind: u16,
     pub origin: u16,

@@ -38,14 +38,14 @@ pub const MOST_MERGES: u16 = 512;
 pub const MOST_OUTPUTS: u16 = 512;
 
 // What a definition answers: its number, or refusal 9.
-#[derive(Drop)]
+#[derive(Clone, Copy)]
 pub enum Defined {
     Number(u16),
     Full,
 }
 
 // What a step answers that makes no number: done, or refusal 9.
-#[derive(Drop)]
+#[derive(Clone, Copy)]
 pub enum Made {
     Done,
     Full,

@@ -3,7 +3,7 @@ ghost use Rattle.std.specs.Prelude.{◌≡◌, ◌+◌, ◌≤◌, min, eqb};
 ghost use Rattle.state_words.specs.Totals as totals;
 
 // A number of edges. It counts edges only and is never an index.
-#[derive(Drop)]
+#[derive(Clone, Copy)]
 pub struct IncomingEdgeCount(pub u32);
 
 pub const ONE: IncomingEdgeCount = IncomingEdgeCount(1);

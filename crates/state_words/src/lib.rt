@@ -1,6 +1,8 @@
 // The nesting state, in the lent words behind the record and its index: a section for each table. Here: the sections, the head with
 // its totals, counts of edges and values as words, on which the tables stand. Tables only gain at their end, and their records name only
 // earlier records; sets of deferred edges lie in slots and change in place.
+#![tactic(auto)]
+
 pub mod bundle_numbers;
 pub mod defined;
 pub mod edges;

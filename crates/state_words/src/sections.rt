@@ -6,7 +6,7 @@ use store::layout::INDEX_END;
 use store::{WORDS, tells_length};
 
 // Where a section begins, and how many words it has.
-#[derive(Drop)]
+#[derive(Clone, Copy)]
 pub struct Section {
     pub from: usize,
     pub words: usize,

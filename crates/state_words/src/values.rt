@@ -113,7 +113,7 @@ pub fn value_word(v: Value) -> u16
 }
 
 // A value taken apart: kinds 0 to 5 of document 01; a marked input is an input. `of` is a region, 0 where there is none.
-#[derive(Drop)]
+#[derive(Clone, Copy)]
 pub struct Parts {
     pub kind: u16,
     pub of: u16,

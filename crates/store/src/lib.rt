@@ -1,4 +1,6 @@
 // A store of blocks, checked and loaded into lent words: refusals 1 to 3, and 4 for W.
+#![tactic(auto)]
+
 ghost use Rattle.std.specs.Prelude.{◌≡◌, ◌++◌, ℕ, ◌+◌, ◌*◌, ◌/◌, ◌≤◌, ◌<◌, length, drop};
 ghost use Rattle.format.specs.Store.{pair, weighted, blocks_checked, word_at, all_zero, count_right, store_words};
 ghost use Rattle.store.specs.Loaded.{load_answered, answered, words_counted, Loads};
@@ -14,14 +16,14 @@ pub use refusals::Refusal;
 pub use write::{StoreWritten, write_store};
 
 // W, the words that a store holds, or its refusal.
-#[derive(Drop)]
+#[derive(Clone, Copy)]
 pub enum Loaded {
     Words(u16),
     Refused(Refusal),
 }
 
 // Nothing to refuse so far, or the refusal.
-#[derive(Drop)]
+#[derive(Clone, Copy)]
 pub enum Verdict {
     Right,
     Refused(Refusal),

@@ -28,7 +28,7 @@ pub const FIGURE_TOO_LARGE: u16 = 11;
 pub const NEVER: u16 = 0;
 
 // 2 and 3 have the block, 5 to 8 the region.
-#[derive(Drop)]
+#[derive(Clone, Copy)]
 pub enum Refusal {
     WrongLength,
     WrongBlockNumber(u16),

@@ -8,7 +8,7 @@ use crate::layout::{RECORD_END, WORDS, tells_length, word_at};
 use crate::refusals::Refusal;
 
 // How many bytes were written, or the refusal.
-#[derive(Drop)]
+#[derive(Clone, Copy)]
 pub enum StoreWritten {
     Bytes(u16),
     Refused(Refusal),

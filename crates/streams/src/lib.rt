@@ -1,4 +1,6 @@
 // Standard input to its end, and the text that is put out: for the programs alone, which say on standard error what failed.
+#![tactic(auto)]
+
 ghost use Rattle.std.specs.Prelude.{◌<◌, ◌≡◌, true, length};
 ghost use Rattle.text.specs.declared.Written.TheVariants.{Full};
 ghost use Rattle.io.specs.Counts.{IsPrefixLen};
@@ -8,7 +10,7 @@ use libc::STDIN_FILENO;
 use text::Written;
 
 // How many bytes were read, and whether a read failed.
-#[derive(Drop)]
+#[derive(Clone, Copy)]
 pub struct Input {
     pub size: usize,
     pub failed: bool,

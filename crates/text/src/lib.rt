@@ -1,4 +1,6 @@
 // Texts written into a lent buffer.
+#![tactic(auto)]
+
 ghost use Rattle.std.specs.Prelude.{◌≡◌, [], ◌∷◌, ◌++◌};
 ghost use Rattle.meaning.specs.Text.{decimal};
 ghost use Rattle.text.specs.Buffer.{buffer, Wrote};
@@ -51,7 +53,7 @@ pub fn put_labeled(out: &mut [u8], at: usize, label: &[u8], n: u32) -> usize
 }
 
 // How many bytes a text has, or that the buffer was too small and holds its front.
-#[derive(Drop)]
+#[derive(Clone, Copy)]
 pub enum Written {
     Bytes(usize),
     Full,

@@ -10,7 +10,7 @@ use nesting::{BOOL_KIND, CONST_KIND, INPUT_KIND, INSTR_KIND, OUTPUT_KIND, UNDEF_
 use text::{put_byte, put_labeled, put_number, put_text};
 
 // The next word to read, and the next byte to write. A place beyond the words' end says that they were not as they should be.
-#[derive(Drop)]
+#[derive(Clone, Copy)]
 pub struct SheetCursor {
     pub at: usize,
     pub place: usize,

@@ -10,7 +10,7 @@ ghost use Rattle.text_cursor.specs.WordsToText.{PutsText, PutsWithin};
 use nesting::{LETTER_F, LETTER_M, LETTER_T, LETTER_U};
 use text_cursor::cursor::{SheetCursor, number, say, skip, stop, value};
 
-#[derive(Drop)]
+#[derive(Clone, Copy)]
 pub enum Field {
     Number,
     Value,

@@ -1,2 +1,4 @@
 // The fields of a sheet's line as text: items, conditions, and lists of each.
+#![tactic(auto)]
+
 pub mod fields;

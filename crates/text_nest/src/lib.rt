@@ -1,4 +1,6 @@
 // From a store's bytes to the text that is printed of it: its sheet, or its refusal.
+#![tactic(auto)]
+
 ghost use Rattle.text_nest.specs.Prints.{Prints};
 
 use nester::SheetAnswer;

@@ -12,7 +12,7 @@ use store::WORDS;
 use text::{put_byte, put_labeled, put_number, put_text};
 
 // A list of numbers that a record has; all but the constants' types belong to a region.
-#[derive(Drop)]
+#[derive(Clone, Copy)]
 pub enum Numbers {
     Constants,
     Inputs(u16),
@@ -93,7 +93,7 @@ pub fn put_value(out: &mut [u8], at: usize, v: Value) -> usize
 }
 
 // A list of values of a region: what its terminator has, what an instruction reads, what a target is passed.
-#[derive(Drop)]
+#[derive(Clone, Copy)]
 pub enum Values {
     Terminator(u16),
     Reads(u16, u16, u16),

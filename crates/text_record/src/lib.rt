@@ -1,4 +1,6 @@
 // An accepted record as text, in a lent buffer.
+#![tactic(auto)]
+
 ghost use Rattle.record.specs.Stands.{OfRecord};
 ghost use Rattle.text.specs.Buffer.{buffer, Wrote};
 ghost use Rattle.text.specs.Whole.{Whole};

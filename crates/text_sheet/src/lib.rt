@@ -1,4 +1,6 @@
 // The words of a sheet as its printed lines, in a lent buffer (document 01, "The printed sheet").
+#![tactic(auto)]
+
 ghost use Rattle.std.specs.Prelude.{◌≡◌, take, leb};
 ghost use Rattle.meaning.specs.Lists.{pick};
 ghost use Rattle.nesting.specs.decoding.Decode.{decode_line};
@@ -12,7 +14,7 @@ use text_lines::lines::{put_first_line, put_line, put_sheet};
 
 // The place of the next word, and the bytes of the line. Full: the buffer is too small, and holds the line's front. NoLine: the words
 // there are no line, and the buffer is as lent.
-#[derive(Drop)]
+#[derive(Clone, Copy)]
 pub enum Printed {
     Line(usize, usize),
     Full,

@@ -1,4 +1,6 @@
 // From a store's bytes to the text that is shown of it.
+#![tactic(auto)]
+
 ghost use Rattle.text_show.specs.Shows.{Shows};
 
 use accept::Accepted;

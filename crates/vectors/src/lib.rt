@@ -1,5 +1,7 @@
 // A list of vectors, read byte by byte. A vector is a line with a word and a store's bytes in hex, the lines of its answer,
 // and a line with a dot.
+#![tactic(auto)]
+
 ghost use Rattle.std.specs.Prelude.{◌≡◌, ◌≤◌, ◌<◌, length};
 ghost use Rattle.vectors.specs.Parts.{behind, hex_digit, hex_byte};
 ghost use Rattle.vectors.specs.Reading.{Decodes, at_start, ends_at, KeptSoFar, counted_of};
@@ -11,14 +13,14 @@ pub const TEXT: usize = 65536;
 pub const STORE: usize = 32768;
 
 // How many answers agreed with a list, and how many differed.
-#[derive(Drop)]
+#[derive(Clone, Copy)]
 pub struct Tally {
     pub agree: u32,
     pub differ: u32,
 }
 
 // How many bytes of a vector are kept so far, whether the next byte begins a line, and the tally of the vectors before.
-#[derive(Drop)]
+#[derive(Clone, Copy)]
 pub struct VectorReader {
     pub size: usize,
     pub fresh: bool,

@@ -49,13 +49,13 @@ entry_kept (y ∷ es) t r x p = go (eqb r y.region) p (λ q. entry_kept es t r x
     go false q ih = ih q
 
 -- A log's chains end if those of a longer one do.
-pub end_before : {es : List RewriteEntry} {r : ℕ} (t : List RewriteEntry) → ChainsEnd (es ++ t) r → ChainsEnd es r
-end_before {es} {r} t (no_more o) = no_more (go (rewrites_of es r) refl)
+pub end_before : {es : List RewriteEntry} (t : List RewriteEntry) {r : ℕ} → ChainsEnd (es ++ t) r → ChainsEnd es r
+end_before {es} t {r} (no_more o) = no_more (go (rewrites_of es r) refl)
   where
     go : (y : Option RegionInputRewrites) → rewrites_of es r ≡ y → Open es r
     go none e = e
     go (some y) e = let z = entry_kept es t r y e in absurd (clash (cc))
-end_before {es} {r} t (goes_on x f h) = go (rewrites_of es r) refl (λ k v q g n. end_before t (h k v q g n))
+end_before {es} t {r} (goes_on x f h) = go (rewrites_of es r) refl (λ k v q g n. end_before t (h k v q g n))
   where
     go : (y : Option RegionInputRewrites) → rewrites_of es r ≡ y
         → ((k : ℕ) (v : Value) (q : ℕ) → RewritesTo x k v → names v ≡ some q → ChainsEnd es q) → ChainsEnd es r

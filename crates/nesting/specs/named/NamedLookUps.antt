@@ -82,7 +82,7 @@ module _ (M : ℕ) where
   chain_named : (fuel : ℕ) (es : List RewriteEntry) → LogNamed es → (v : Value) → Named M v → Named M (look_up_chain fuel es v).value
   unfolding look_up_chain
   chain_named zero es l v h = h
-  chain_named (suc fuel) es l (input r k) h = input_named _ (λ v n. chain_named fuel es l v n) r k (rewrites_of es r) (found_named es r l)
+  chain_named (suc fuel) es l (input r k) h = input_named (λ v. look_up_chain fuel es v) (λ v n. chain_named fuel es l v n) r k (rewrites_of es r) (found_named es r l)
   chain_named (suc fuel) es l (held r k) h = tt
   chain_named (suc fuel) es l (const i) h = tt
   chain_named (suc fuel) es l (instr r k) h = tt

@@ -1,0 +1,15 @@
+use Rattle.format.specs.Read.{read_value, counted}
+use Rattle.reading.specs.laws.Turns.{turning, turns_left, turns}
+use Rattle.reading.proofs.terminators.passes.Goals as goal
+
+pub loop-i-init : goal.loop-i-init
+loop-i-init c = search turns
+
+pub returns-in-Bad : goal.returns-in-Bad
+returns-in-Bad c = search turns
+
+pub loop-i-preserved : goal.loop-i-preserved
+loop-i-preserved c = search turns
+
+pub returns : goal.returns
+returns c = search turns

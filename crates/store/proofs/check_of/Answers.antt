@@ -1,0 +1,27 @@
+use mathlib.Core.Path.{◌≡◌, refl, ◌∙◌, ap}
+use Prim.Native.Nat.{◌+◌, ◌*◌, ◌-◌, ◌≤◌}
+use native.Mathlib.Omega.{arith}
+use lib.ListN.{get_or}
+use Rattle.format.specs.Store.{weighted}
+use Rattle.format.specs.laws.Stores.{weight_bound, weighted_more}
+use Rattle.store.proofs.check_of.Goals as goal
+
+pub loop-place-init : goal.loop-place-init
+unfolding weighted
+loop-place-init c = (omega arith, (omega arith, refl))
+
+pub loop-place-preserved : goal.loop-place-preserved
+loop-place-preserved c = (
+  omega arith,
+  (
+    omega (
+      arith,
+      weight_bound (get_or c.args.bytes.now (c.args.at + c.loop-place.place) 0) c.loop-place.place
+          (omega (arith, c.type_inv.bytes (c.args.at + c.loop-place.place))) (omega arith),
+    ),
+    omega (
+      arith,
+      weighted_more c.args.bytes.now c.args.at c.loop-place.place,
+    ),
+  ),
+)

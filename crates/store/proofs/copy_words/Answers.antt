@@ -1,0 +1,30 @@
+use mathlib.Core.List.{◌++◌}
+use mathlib.Core.Path.{◌≡◌, refl, ◌∙◌, ap}
+use Prim.Native.Nat.{◌-◌, ◌≤◌}
+use native.Mathlib.Omega.{arith}
+use lib.ListN.{drop}
+use borrow.Author.Rules.{rules}
+use Rattle.format.specs.Store.{word_at}
+use Rattle.store.specs.Block.{byte_place}
+use Rattle.store.specs.laws.Words.{place_within, word_read}
+use Rattle.meaning.specs.facts.Elements.{tabulate_more}
+use Rattle.meaning.specs.Lists.{tabulate}
+use Rattle.store.proofs.copy_words.Goals as goal
+
+pub loop-j-init : goal.loop-j-init
+unfolding tabulate
+loop-j-init c = (omega arith, (refl, refl))
+
+pub loop-j-preserved : goal.loop-j-preserved
+loop-j-preserved c = (
+  omega arith,
+  (
+    c.next_place-at.ensures _ c.loop-j.invariant.1.0,
+    rw (
+      c.loop-j.invariant.1.1,
+      word_read
+          c.args.bytes.now _ _ _ c.pair_at.ensures
+          c.loop-j.invariant.1.0,
+    ) (tabulate_more _ _ _ (omega arith)),
+  ),
+)

@@ -1,0 +1,18 @@
+use mathlib.Core.List.{◌++◌}
+use mathlib.Core.Path.{◌≡◌, refl, ◌∙◌, ap}
+use Prim.Native.Nat.{◌-◌, ◌≤◌}
+use native.Mathlib.Omega.{arith}
+use lib.ListN.{drop}
+use borrow.Author.Rules.{rules}
+use Rattle.format.specs.Store.{word_at}
+use Rattle.store.specs.Block.{byte_place}
+use Rattle.store.specs.laws.Words.{place_within, word_read}
+use Rattle.meaning.specs.facts.Elements.{tabulate_more}
+use Rattle.meaning.specs.Lists.{tabulate}
+use Rattle.store.proofs.copy_words.Given as goal
+
+abbrev pub invariant-loop-j : goal.invariant-loop-j
+invariant-loop-j l = (l.j ≤ l.w) × ((l.at ≡ byte_place l.j) × (l.words ≡ tabulate l.j (word_at l.bytes) ++ drop l.j l.initial.words))
+
+abbrev pub decreases-loop-j : goal.decreases-loop-j
+decreases-loop-j l = l.w - l.j

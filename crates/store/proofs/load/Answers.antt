@@ -1,0 +1,19 @@
+use mathlib.Core.Path.{sym, ap, ◌∙◌}
+use borrow.Author.Rules.{rules}
+use Rattle.format.specs.Store.{store_words}
+use Rattle.store.specs.Loaded.{load_answered}
+use Rattle.store.specs.laws.Store.{holds_counted, kept, filled}
+use Rattle.store.proofs.load.Goals as goal
+
+pub copy_words-requires : goal.copy_words-requires
+copy_words-requires c =
+    let h = holds_counted c.args.bytes.now _ c.in-Words.ensures in
+    (h.short, h.within)
+
+pub returns : goal.returns
+returns c =
+    let e = c.in-Words.ensures in
+    record {
+      answer = e;
+      words = c.copy_words.ensures ∙ filled _ _ _ (holds_counted c.args.bytes.now _ e);
+    }

@@ -1,0 +1,14 @@
+use native.Mathlib.Omega.{arith}
+use Rattle.store.specs.laws.Writes.{weight_is, low_weight, high_weight}
+use borrow.Author.Rules.{rules}
+use Rattle.store.proofs.write.weight.Goals as goal
+
+pub returns : goal.returns
+returns c = (
+  weight_is c.args.word c.args.place,
+  omega (
+    arith,
+    low_weight c.args.word c.args.place c.requires,
+    high_weight c.args.word c.args.place (omega arith) c.requires,
+  ),
+)
