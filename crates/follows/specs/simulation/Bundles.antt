@@ -1,6 +1,6 @@
 -- Sets of deferred edges: each target once, finding by target, and what is left once a bundle is taken out.
 use Rattle.std.specs.Prelude.{Bool, false, true, [], ◌++◌, ◌∷◌, ◌⊎◌, ◌≡◌, refl, suc, get_or, length, take, eqb}
-use Rattle.std.proofs.Common.{inl, inr, ◌∙◌, ap, sym, arith}
+use Rattle.std.proofs.Common.{inl, inr, ◌∙◌, ap, sym, arith, subst}
 use Rattle.std.proofs.Math.Option.{some}
 use Rattle.meaning.specs.facts.Tests.{clash, eqb_less, eqb_sym}
 use Rattle.meaning.specs.Lists.{empty, pick}
@@ -98,7 +98,7 @@ in_fill_gap (x ∷ d) y i = split_last x x d y i
 
 from_fill_gap : (d : DeferredEdgeBundleSet) (y : DeferredEdgeBundle) → In y (fill_gap d) → In y d
 from_fill_gap [] y i = i
-from_fill_gap (x ∷ d) y (inl p) = rw p (last_in x x d)
+from_fill_gap (x ∷ d) y (inl p) = subst (λ z. In z (x ∷ d)) (sym p) (last_in x x d)
 from_fill_gap (x ∷ d) y (inr i) = in_but_last x d y i
 
 pub from_split_out : (x : DeferredTarget) (d : DeferredEdgeBundleSet) (y : DeferredEdgeBundle) → In y (split_out_target x d) → In y d

@@ -1,7 +1,7 @@
 -- After its case j, a select comes to one of the bundles that it emits, and their inputs read as the case's.
 use Rattle.std.specs.Prelude.{Bool, List, [], ◌∷◌, map, ◌⊎◌, ◌≡◌, ◌+◌, suc, zero, ℕ, drop, get_or, length}
 use Rattle.std.proofs.Math.Bool.{false, true}
-use Rattle.std.proofs.Common.{inl, inr, ◌∙◌, arith, drop_of_length-le, drop-cons}
+use Rattle.std.proofs.Common.{inl, inr, ◌∙◌, arith, drop_of_length-le, drop-cons, subst}
 use Rattle.std.proofs.Math.Option.{Option, none, some}
 use Rattle.std.proofs.Math.Path.{ap, refl, sym}
 use Rattle.meaning.specs.Graph.{SelectionKind, Value, bool, bool_cond, output, undef}
@@ -193,21 +193,21 @@ module _ (W : World) (ρ : Resolver) (os : List NodeOutput) (n : DefinedSelect) 
 
         holds : (z : DeferredEdgeBundle) → EmitsBundle os n (plan_bundle W.g cs w) z → (v : Value) → Mat z.condition os v
             → Truthy (s'.env (ρ v))
-        holds z em v mat = go (all_true (per_cases w.target cs)) (rw em.condition at mat)
+        holds z em v mat = go (all_true (per_cases w.target cs)) (subst (λ c. Mat c os v) em.condition mat)
           where
             go : (o : Bool) → Mat (condition_from n (pick o none (some (conds w.target)))) os v → Truthy (s'.env (ρ v))
             go true mt = record { less = 0; is = ap (λ x. s'.env (ρ x)) mt ∙ on_bool' true }
             go false mt =
                 merged_true ρ os n.node j n.kind n.scrutinee s s' on_output on_Bool reads taken (conds y.target)
                 (per_case_deferred y.target (deferred_of cj)).condition (per_cases_condition y.target cs j cj at_j)
-                (per_case_true ρ os s on_Bool on_undef (deferred_of cj) dist y goes.chosen) v (rw w_target at mt)
+                (per_case_true ρ os s on_Bool on_undef (deferred_of cj) dist y goes.chosen) v (subst (λ t. Mat (condition_from n (some (conds t))) os v) w_target mt)
 
         others : (z : DeferredEdgeBundle) → EmitsBundle os n (plan_bundle W.g cs w) z → (z' : DeferredEdgeBundle) → In z' d
             → same_target z'.target z.target ≡ false → (v : Value) → Mat z'.condition os v → s'.env (ρ v) ≡ word 0
         others z em z' i ne v mat =
             let from = emits_from W.g os n cs ws d emits z' i in
             let ne' : same_target from.0.target y.target ≡ false = rw (from.2.target, em.target, w_target) at ne in
-            go from.0.target ne' (all_true (per_cases from.0.target cs)) refl (rw from.2.condition at mat)
+            go from.0.target ne' (all_true (per_cases from.0.target cs)) refl (subst (λ c. Mat c os v) from.2.condition mat)
           where
             go : (x : DeferredTarget) → same_target x y.target ≡ false → (o : Bool) → all_true (per_cases x cs) ≡ o
                 → Mat (condition_from n (pick o none (some (conds x)))) os v → s'.env (ρ v) ≡ word 0

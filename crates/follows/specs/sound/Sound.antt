@@ -30,13 +30,7 @@ fitting false k s t h = absurd (clash (cc))
 
 attempts_shown : (g : Graph) (n : Nested) → (sheet_of g n).attempts ≡ n.attempts
 unfolding sheet_of
-attempts_shown g n = go n.outcome refl
-  where
-    go : (o : Outcome) → n.outcome ≡ o → (sheet_of g n).attempts ≡ n.attempts
-    go untouched e = rw e
-    go whole e = rw e
-    go closed e = rw e
-    go leftover e = rw e
+attempts_shown g n = refl
 
 figure_shown : (g : Graph) (n : Nested) (outs : Option (List Value)) → HasForm n outs
     → (sheet_of g n).figure ≡ figure g.test_cost n.entry.children

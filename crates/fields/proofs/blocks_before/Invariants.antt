@@ -1,0 +1,13 @@
+use mathlib.Core.Path.{◌≡◌}
+use Prim.Native.Nat.{◌-◌, ◌≤◌}
+use native.Mathlib.Omega.{arith}
+use borrow.Author.Rules.{rules}
+use Rattle.fields.specs.ByNumber.{BlocksBefore}
+use Rattle.fields.specs.laws.BlocksBefore.{none_before, blocks_more}
+use Rattle.fields.proofs.blocks_before.Given as goal
+
+abbrev pub invariant-loop-i : goal.invariant-loop-i
+invariant-loop-i l = BlocksBefore l.w l.i l.sum × (l.i ≤ l.r)
+
+abbrev pub decreases-loop-i : goal.decreases-loop-i
+decreases-loop-i l = l.r - l.i

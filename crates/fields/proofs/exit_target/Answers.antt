@@ -1,0 +1,8 @@
+use borrow.Author.Rules.{rules}
+use mathlib.Core.Path.{◌∙◌}
+use Rattle.fields.specs.laws.Regions.{exits_at}
+use Rattle.fields.specs.laws.Lists.{word_item_is}
+use Rattle.fields.proofs.exit_target.Goals as goal
+
+pub returns : goal.returns
+returns c g s = c.word_item.ensures ∙ rw c.indexed.ensures (word_item_is _ (exits_at s _) _)

@@ -1,0 +1,22 @@
+use borrow.Author.Rules.{rules}
+use mathlib.Core.Path.{◌≡◌}
+use Prim.Native.Nat.{◌≤◌, ◌-◌, ◌+◌, ◌*◌}
+use native.Mathlib.Omega.{arith}
+use lib.ListN.{length, drop}
+use Rattle.meaning.specs.Graph.{region}
+use Rattle.format.specs.References.{instructions}
+use Rattle.record.specs.Stands.{OfRecord}
+use Rattle.fields.specs.laws.Numbered.{count_more, count_all}
+use Rattle.fields.proofs.instruction_count.Goals as goal
+
+pub loop-b-preserved : goal.loop-b-preserved
+loop-b-preserved c = (
+  omega arith,
+  omega arith,
+  λ g s. rw (c.block_length.ensures g s)
+      (count_more _ (c.block_count-n.ensures g s) _ _ _ c.loop-b-test.true
+      (c.loop-b.invariant.2 g s)),
+)
+
+pub returns : goal.returns
+returns c g s = count_all _ (c.block_count-n.ensures g s) _ _ _ c.loop-b-test.false (c.loop-b.invariant.2 g s)

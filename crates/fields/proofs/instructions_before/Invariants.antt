@@ -1,0 +1,16 @@
+use mathlib.Core.Path.{◌≡◌, refl}
+use Prim.Native.Nat.{◌≤◌, ◌-◌, ◌*◌}
+use native.Mathlib.Omega.{arith}
+use Rattle.meaning.specs.Graph.{region}
+use Rattle.record.specs.Stands.{OfRecord}
+use Rattle.fields.specs.ByNumber.{instructions_before}
+use Rattle.fields.specs.laws.BlocksBefore.{more_instructions}
+use borrow.Author.Rules.{rules}
+use Rattle.fields.proofs.instructions_before.Given as goal
+
+abbrev pub invariant-loop-q : goal.invariant-loop-q
+invariant-loop-q l =
+    (l.q ≤ l.b) × (l.instructions ≤ 65535 * l.q) × OfRecord l.w (λ g. l.instructions ≡ instructions_before (region g l.r).blocks l.q)
+
+abbrev pub decreases-loop-q : goal.decreases-loop-q
+decreases-loop-q l = l.b - l.q

@@ -1,0 +1,14 @@
+use borrow.Author.Rules.{rules}
+use mathlib.Core.Path.{◌≡◌, sym, ◌∙◌}
+use Prim.Native.Nat.{◌≤◌, ◌-◌}
+use native.Mathlib.Omega.{arith}
+use native.Mathlib.Nat.{sub-zero}
+use Rattle.fields.specs.ItemsAndPlaces as words
+use Rattle.fields.specs.laws.Turns.{list_found, list_turn, list_stop}
+use Rattle.fields.proofs.places.list_for.Given as goal
+
+abbrev pub invariant-loop-q : goal.invariant-loop-q
+invariant-loop-q l = (l.q ≤ l.n) × (words.list_for l.w l.targets l.t (l.n - l.q) l.q l.p ≡ words.list_for l.w l.targets l.t l.n 0 l.initial.p)
+
+abbrev pub decreases-loop-q : goal.decreases-loop-q
+decreases-loop-q l = l.n - l.q

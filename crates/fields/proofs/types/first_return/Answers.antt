@@ -1,0 +1,26 @@
+use borrow.Author.Rules.{rules}
+use mathlib.Core.Path.{◌≡◌, sym, ◌∙◌}
+use Prim.Native.Nat.{◌≤◌, ◌-◌, ◌+◌}
+use native.Mathlib.Omega.{arith}
+use lib.ListN.{drop}
+use Rattle.format.specs.References as format
+use Rattle.record.specs.Stands.{OfRecord}
+use Rattle.fields.specs.laws.Returns.{return_here, return_later, no_return}
+use Rattle.fields.proofs.types.first_return.Goals as goal
+
+pub returns-then-is_return : goal.returns-then-is_return
+returns-then-is_return c g s =
+    return_here g.regions (c.region_count-n.ensures g s) _ c.loop-q-test.true
+    (sym (c.is_return.ensures g s) ∙ c.if-is_return.true) (c.loop-q.invariant.2 g s)
+
+pub loop-q-preserved : goal.loop-q-preserved
+loop-q-preserved c = (
+  omega arith,
+  omega arith,
+  λ g s. return_later g.regions (c.region_count-n.ensures g s) _
+      c.loop-q-test.true (sym (c.is_return.ensures g s) ∙ c.if-is_return.false)
+      (c.loop-q.invariant.2 g s),
+)
+
+pub returns : goal.returns
+returns c g s = no_return g.regions (c.region_count-n.ensures g s) _ c.loop-q-test.false (c.loop-q.invariant.2 g s)

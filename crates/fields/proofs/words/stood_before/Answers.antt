@@ -1,0 +1,12 @@
+-- Within the list the search decides; beyond it nothing stands.
+use Rattle.fields.specs.laws.Repeats.{again_by, not_again}
+use borrow.Author.Rules.{rules}
+use Rattle.fields.proofs.words.stood_before.Goals as goal
+
+pub returns-then-q-word_at : goal.returns-then-q-word_at
+returns-then-q-word_at c =
+    let found = c.stands_before.ensures in
+    again_by _ _ _ c.word_at.ensures c.if-q-word_at.true (rw c.word_at-x.ensures at found)
+
+pub returns : goal.returns
+returns c = not_again _ _ _ c.word_at.ensures c.if-q-word_at.false

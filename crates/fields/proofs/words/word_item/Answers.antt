@@ -1,0 +1,13 @@
+use borrow.Author.Rules.{rules}
+use mathlib.Core.Path.{◌∙◌}
+use Rattle.fields.specs.ItemsAndPlaces.{word_item}
+use Rattle.meaning.specs.facts.Tests.{picked, passed_over, is_below, not_below}
+use Rattle.fields.proofs.words.word_item.Goals as goal
+
+pub returns-then-k-word_at : goal.returns-then-k-word_at
+unfolding word_item
+returns-then-k-word_at c = c.word_at-then-k-word_at.ensures ∙ picked _ _ (is_below c.if-k-word_at.true c.word_at.ensures)
+
+pub returns : goal.returns
+unfolding word_item
+returns c = passed_over _ _ (not_below c.if-k-word_at.false c.word_at.ensures)

@@ -1,0 +1,9 @@
+-- Three stores and the blocks are a row of the index.
+use native.Mathlib.Omega.{arith}
+use Rattle.record.specs.laws.IndexSteps.{store_row}
+use borrow.Author.Rules.{rules}
+use Rattle.record.proofs.index.put_places.Goals as goal
+
+pub returns : goal.returns
+returns c =
+    store_row _ _ _ _ _ c.requires (omega (arith, c.tells_length-arg-2-1.given)) c.store_blocks.ensures
