@@ -1,0 +1,26 @@
+use borrow.Author.Rules.{rules}
+use Prim.Native.Nat.{◌-◌}
+use native.Mathlib.Omega.{arith}
+use mathlib.Core.Path.{refl}
+use mathlib.Core.List.{[]}
+use lib.ListN.{drop}
+use Rattle.meaning.specs.Graph.{region, edges_of, targets_of}
+use Rattle.format.specs.References as format
+use Rattle.fields.specs.ByNumber.{before}
+use Rattle.references.specs.Checks.{first_right}
+use Rattle.references.specs.laws.EdgesWalk.{edges_walk}
+use Rattle.references.specs.laws.Rounds.{Round, round_end, call_passed, call_refused}
+use Rattle.references.proofs.edges_right.Goals as goal
+
+pub loop-j-init : goal.loop-j-init
+unfolding before
+loop-j-init c =
+    let r = c.args.r in
+    record {
+      bound = omega arith;
+      left = λ g k.
+          let seen = before (targets_of g r) k in
+          format.first_refusal (format.edge_right g r) (format.first_edges seen (drop k (edges_of (region g r).terminator)));
+      walk = λ g s. edges_walk (format.edge_right g r) (edges_of (region g r).terminator) (c.target_count-n.ensures g s);
+      rest = λ g s. refl;
+    }

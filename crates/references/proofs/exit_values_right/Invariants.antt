@@ -1,0 +1,20 @@
+-- Each round has one value.
+use borrow.Author.Rules.{rules}
+use Prim.Native.Nat.{◌-◌}
+use native.Mathlib.Omega.{arith}
+use mathlib.Core.Path.{refl, ◌∙◌}
+use lib.ListN.{get_or, drop}
+use Rattle.meaning.specs.Graph.{no_value}
+use Rattle.format.specs.References as format
+use Rattle.fields.specs.ByNumber.{end_values}
+use Rattle.references.specs.laws.Walks.{each_walk}
+use Rattle.references.specs.laws.Rounds.{Round, round_end, call_passed, call_refused}
+use Rattle.references.proofs.exit_values_right.Given as goal
+
+abbrev pub invariant-loop-k : goal.invariant-loop-k
+invariant-loop-k l =
+    Round l.w (λ g k. format.named_right g l.r (format.behind_all g l.r) (get_or (end_values g l.r) k no_value))
+    (λ g. format.first_refusal (format.named_right g l.r (format.behind_all g l.r)) (end_values g l.r)) l.n l.k
+
+abbrev pub decreases-loop-k : goal.decreases-loop-k
+decreases-loop-k l = l.n - l.k

@@ -1,0 +1,20 @@
+-- Each round has one read.
+use borrow.Author.Rules.{rules}
+use Prim.Native.Nat.{◌-◌}
+use native.Mathlib.Omega.{arith}
+use mathlib.Core.Path.{refl, ap, ◌∙◌}
+use lib.ListN.{get_or, drop}
+use Rattle.meaning.specs.Graph.{no_value}
+use Rattle.format.specs.References as format
+use Rattle.fields.specs.ByNumber.{instr_of}
+use Rattle.references.specs.laws.Walks.{each_walk}
+use Rattle.references.specs.laws.Rounds.{Round, round_end, call_passed, call_refused}
+use Rattle.references.proofs.instruction_reads_right.Given as goal
+
+abbrev pub invariant-loop-k : goal.invariant-loop-k
+invariant-loop-k l =
+    Round l.w (λ g k. format.named_right g l.r l.before (get_or (instr_of g l.r l.b l.i).reads k no_value))
+    (λ g. format.first_refusal (format.named_right g l.r l.before) (instr_of g l.r l.b l.i).reads) l.n l.k
+
+abbrev pub decreases-loop-k : goal.decreases-loop-k
+decreases-loop-k l = l.n - l.k

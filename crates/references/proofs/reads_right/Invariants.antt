@@ -1,0 +1,20 @@
+use borrow.Author.Rules.{rules}
+use mathlib.Core.Path.{◌≡◌, refl, sym, ap, ◌∙◌}
+use Prim.Native.Nat.{◌≤◌, ◌-◌, ◌*◌}
+use native.Mathlib.Omega.{arith}
+use lib.ListN.{drop}
+use Rattle.meaning.specs.Graph.{region}
+use Rattle.format.specs.References as format
+use Rattle.record.specs.Stands.{OfRecord}
+use Rattle.store.specs.Loaded.{answered}
+use Rattle.references.specs.laws.Steps.{block_passes, block_stops, blocks_end}
+use Rattle.references.proofs.reads_right.Given as goal
+
+abbrev pub invariant-loop-b : goal.invariant-loop-b
+invariant-loop-b l =
+    (l.b ≤ l.n) × (l.before ≤ 65535 * l.b) × OfRecord l.w (λ g. format.reads_right g l.r l.before (format.instructions (drop l.b (region g l.r).blocks))
+    ≡ format.reads_right g l.r 0
+    (format.instructions (region g l.r).blocks))
+
+abbrev pub decreases-loop-b : goal.decreases-loop-b
+decreases-loop-b l = l.n - l.b

@@ -1,0 +1,17 @@
+-- The entry, and then each round has one region.
+use borrow.Author.Rules.{rules}
+use Prim.Native.Nat.{◌-◌}
+use native.Mathlib.Omega.{arith}
+use lib.ListN.{drop}
+use Rattle.meaning.specs.Graph.{region}
+use Rattle.format.specs.References as format
+use Rattle.references.specs.laws.Walks.{regions_walk}
+use Rattle.references.specs.laws.Steps.{bad_entry, good_entry}
+use Rattle.references.specs.laws.Rounds.{Round, round_end, call_passed, call_refused}
+use Rattle.references.proofs.references.Given as goal
+
+abbrev pub invariant-loop-r : goal.invariant-loop-r
+invariant-loop-r l = Round l.w (λ g k. format.region_right g k (region g k)) (λ g. format.references g) l.n l.r
+
+abbrev pub decreases-loop-r : goal.decreases-loop-r
+decreases-loop-r l = l.n - l.r
