@@ -37,7 +37,7 @@ fn before_claim(w: &mut [u16; WORDS]) -> [u32; 32]
 
 // Whether the entry's count is ONE: if not, nothing is claimed.
 fn entered_once(w: &[u16; WORDS], counts: &[u32; 32]) -> bool
-    ensures { OfRecord w.now (λ g. result ≡ words.«entered_once» g counts.now) }
+    ensures { OfRecord w.now (λ g. result ≡ words.entered_once g counts.now) }
 {
     count_of(counts, fields::entry(w)).same(ONE)
 }

@@ -10,7 +10,7 @@ use state_sets::sets::{bundle_at, copy_bundle, put_set_length, set_start, swap_s
 use store::WORDS;
 
 pub fn case_inputs(w: &[u16; WORDS], j: u16) -> [u16; 4]
-    ensures { result ≡ words.«case_inputs» w.now j }
+    ensures { result ≡ words.case_inputs w.now j }
 {
     [
         case_input(w, j, 0),

@@ -19,7 +19,7 @@ use store::WORDS;
 use store::layout::word_at;
 
 pub fn target_input_count(w: &[u16; WORDS], t: u16) -> u16
-    ensures { OfRecord w.now (λ g. result ≡ words.«input_count» g w.now t) }
+    ensures { OfRecord w.now (λ g. result ≡ words.input_count g w.now t) }
 {
     if t == RETURN {
         return head(w, RETURNED);
@@ -29,7 +29,7 @@ pub fn target_input_count(w: &[u16; WORDS], t: u16) -> u16
 
 // All Return regions agree in types.
 pub fn target_input_type(w: &[u16; WORDS], t: u16, k: u16) -> u16
-    ensures { OfRecord w.now (λ g. result ≡ words.«target_type» g w.now t k) }
+    ensures { OfRecord w.now (λ g. result ≡ words.target_type g w.now t k) }
 {
     if t == RETURN {
         return returned_type(w, k);
@@ -39,7 +39,7 @@ pub fn target_input_type(w: &[u16; WORDS], t: u16, k: u16) -> u16
 
 // The Rust's Always: a set of one, whose condition is dropped.
 pub fn condition_in(w: &[u16; WORDS], p: BundleNumber, n: u16) -> u16
-    ensures { result ≡ words.«condition_in» w.now p.0 n }
+    ensures { result ≡ words.condition_in w.now p.0 n }
 {
     if n == 1 {
         return TRUE_COND;
@@ -49,7 +49,7 @@ pub fn condition_in(w: &[u16; WORDS], p: BundleNumber, n: u16) -> u16
 
 // Value k of the n that are listed at a place; beyond them undefined, of type 0.
 fn listed_word(w: &[u16; WORDS], p: u16, k: u16, n: u16) -> u16
-    ensures { result ≡ words.«listed_word» w.now p n k }
+    ensures { result ≡ words.listed_word w.now p n k }
 {
     if k < n {
         return value_word(fields::value_item(w, p, k));
@@ -92,8 +92,8 @@ pub fn put_bundle(
     c: u16,
     vs: &[u16; 4],
 )
-    ensures { w.new ≡ sections.«stored_all» w.old sections.bundles (rows.«bundle_row_at» p.0)
-        (t ∷ totals.«edges_word» n.0 ∷ c ∷ vs.now) }
+    ensures { w.new ≡ sections.stored_all w.old sections.bundles (rows.bundle_row_at p.0)
+        (t ∷ totals.edges_word n.0 ∷ c ∷ vs.now) }
 {
     set_bundle(w, p, t, n, c);
     set_target_inputs(w, p, vs);
@@ -101,7 +101,7 @@ pub fn put_bundle(
 
 // Region r's edge at place j, as a bundle of one.
 pub fn defer_edge(w: &mut [u16; WORDS], p: BundleNumber, r: u16, j: u16)
-    ensures { OfRecord w.old (λ g. w.new ≡ words.«edge_deferred» g w.old p.0 r j) }
+    ensures { OfRecord w.old (λ g. w.new ≡ words.edge_deferred g w.old p.0 r j) }
 {
     let t = fields::target(w, r, j);
     let vs = passed_inputs(w, r, j);
@@ -110,7 +110,7 @@ pub fn defer_edge(w: &mut [u16; WORDS], p: BundleNumber, r: u16, j: u16)
 
 // Always Return.
 pub fn defer_return(w: &mut [u16; WORDS], r: u16)
-    ensures { OfRecord w.old (λ g. w.new ≡ words.«return_deferred» g w.old r) }
+    ensures { OfRecord w.old (λ g. w.new ≡ words.return_deferred g w.old r) }
 {
     let p = bundle_at(set_start(w, r), 0);
     let vs = returned_inputs(w, r);

@@ -24,7 +24,7 @@ use store::WORDS;
 
 // A case that is no claimed region.
 pub fn unclaimed_case(kind: u16, start: BundleNumber, length: u16) -> Case
-    ensures { result ≡ words.«unclaimed_case» kind start.0 length }
+    ensures { result ≡ words.unclaimed_case kind start.0 length }
 {
     Case {
         kind,
@@ -37,7 +37,7 @@ pub fn unclaimed_case(kind: u16, start: BundleNumber, length: u16) -> Case
 }
 
 fn claimed_case(w: &[u16; WORDS], t: u16) -> Case
-    ensures { result ≡ words.«claimed_case» w.now t }
+    ensures { result ≡ words.claimed_case w.now t }
 {
     Case {
         kind: CLAIMED_REGION,
@@ -51,15 +51,15 @@ fn claimed_case(w: &[u16; WORDS], t: u16) -> Case
 
 // Case j with its inputs.
 fn put_case(w: &mut [u16; WORDS], j: u16, x: Case, vs: &[u16; 4])
-    ensures { w.new ≡ sections.«stored_all» w.old sections.cases (rows.«case_row_at» j)
-        (tables.«case_words» x ++ vs.now) }
+    ensures { w.new ≡ sections.stored_all w.old sections.cases (rows.case_row_at j)
+        (tables.case_words x ++ vs.now) }
 {
     set_case(w, j, x);
     set_case_inputs(w, j, vs);
 }
 
 fn fill_case(w: &mut [u16; WORDS], r: u16, j: u16)
-    ensures { OfRecord w.old (λ g. w.new ≡ words.«case_filled» g w.old r j) }
+    ensures { OfRecord w.old (λ g. w.new ≡ words.case_filled g w.old r j) }
 {
     let answer = target_answer(w, r, j);
     if answer == TARGET_CLAIMED {
@@ -79,7 +79,7 @@ fn fill_case(w: &mut [u16; WORDS], r: u16, j: u16)
 
 // The Rust's target_regions, from what the level holds of them.
 pub fn fill_cases(w: &mut [u16; WORDS], r: u16)
-    ensures { OfRecord w.old (λ g. w.new ≡ words.«cases_filled» g w.old r) }
+    ensures { OfRecord w.old (λ g. w.new ≡ words.cases_filled g w.old r) }
 {
     let n = fields::target_count(w, r);
     set_case_count(w, n);
@@ -91,7 +91,7 @@ pub fn fill_cases(w: &mut [u16; WORDS], r: u16)
 }
 
 fn given_word(w: &[u16; WORDS], p: BundleNumber, k: u16, n: u16) -> u16
-    ensures { result ≡ words.«given_word» w.now p.0 n k }
+    ensures { result ≡ words.given_word w.now p.0 n k }
 {
     if k < n {
         return target_input(w, p, k);
@@ -101,7 +101,7 @@ fn given_word(w: &[u16; WORDS], p: BundleNumber, k: u16, n: u16) -> u16
 
 // The inputs of the bundle at a place, which goes to a region.
 fn given_inputs(w: &[u16; WORDS], p: BundleNumber) -> [u16; 4]
-    ensures { OfRecord w.now (λ g. result ≡ words.«given_inputs» g w.now p.0) }
+    ensures { OfRecord w.now (λ g. result ≡ words.given_inputs g w.now p.0) }
 {
     let n = fields::input_count(w, target(w, p));
     [
@@ -114,7 +114,7 @@ fn given_inputs(w: &[u16; WORDS], p: BundleNumber) -> [u16; 4]
 
 // The region that bundle i of region r's set claimed, and the others of that set.
 pub fn fill_claimed_and_others(w: &mut [u16; WORDS], r: u16, i: u16)
-    ensures { OfRecord w.old (λ g. w.new ≡ words.«split_filled» g w.old r i) }
+    ensures { OfRecord w.old (λ g. w.new ≡ words.split_filled g w.old r i) }
 {
     let start = set_start(w, r);
     let p = bundle_at(start, i);

@@ -20,7 +20,7 @@ use state_words::values::{UNDEF, output, undef};
 use store::WORDS;
 
 fn value_in_case(w: &[u16; WORDS], p: BundleNumber, k: u16, ty: u16) -> u16
-    ensures { result ≡ words.«value_in_case» w.now p.0 k ty }
+    ensures { result ≡ words.value_in_case w.now p.0 k ty }
 {
     if p.0 == NO_BUNDLE {
         return undef(ty);

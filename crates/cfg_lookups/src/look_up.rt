@@ -27,7 +27,7 @@ fn plain(value: u16) -> LookUp
 
 // Whether the entry of a marked value's region would change it again: it does not renumber it to itself.
 fn changes_again(w: &[u16; WORDS], v: u16) -> bool
-    ensures { result ≡ words.«changes_again» w.now v }
+    ensures { result ≡ words.changes_again w.now v }
 {
     let r = input_region(v);
     let kind = rewrite_kind(w, r);
@@ -65,7 +65,7 @@ fn renumbers(kind: u16, x: u16) -> bool
 
 // An input is looked up until its region has no entry, or it is marked. No chain passes a region twice.
 pub fn look_up(w: &[u16; WORDS], v: u16) -> LookUp
-    ensures { result ≡ words.«look_up» w.now v }
+    ensures { result ≡ words.look_up w.now v }
 {
     let mut x = v;
     let mut left: u16 = MOST_REGIONS + 1;

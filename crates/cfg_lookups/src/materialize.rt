@@ -13,7 +13,7 @@ use store::WORDS;
 
 // Whether the values in the cases are [true, false].
 fn is_scrutinee(shape: u16, vs: &[u16; 8]) -> bool
-    ensures { result ≡ words.«is_scrutinee» shape vs.now }
+    ensures { result ≡ words.is_scrutinee shape vs.now }
 {
     if shape != BOOL_COND {
         return false;

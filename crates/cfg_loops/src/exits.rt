@@ -27,7 +27,7 @@ fn is_exit_target(w: &[u16; WORDS], r: u16, t: u16) -> bool
 }
 
 fn add_exit_edge(w: &mut [u16; WORDS], r: u16, p: BundleNumber)
-    ensures { OfRecord w.old (λ g. w.new ≡ words.«exit_added» g r p.0 w.old) }
+    ensures { OfRecord w.old (λ g. w.new ≡ words.exit_added g r p.0 w.old) }
 {
     if is_exit_target(w, r, target(w, p)) {
         let n = accumulated_count(w, p);
@@ -37,7 +37,7 @@ fn add_exit_edge(w: &mut [u16; WORDS], r: u16, p: BundleNumber)
 }
 
 pub fn add_exit_edges(w: &mut [u16; WORDS], r: u16)
-    ensures { OfRecord w.old (λ g. w.new ≡ words.«exits_added» g r w.old) }
+    ensures { OfRecord w.old (λ g. w.new ≡ words.exits_added g r w.old) }
 {
     let start = set_start(w, r);
     let n = set_length(w, r);

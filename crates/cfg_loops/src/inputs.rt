@@ -19,7 +19,7 @@ pub struct LoopInputs {
 }
 
 pub fn backedge_inputs(w: &[u16; WORDS], p: BundleNumber) -> [u16; 4]
-    ensures { result ≡ words.«backedge_inputs» w.now p.0 }
+    ensures { result ≡ words.backedge_inputs w.now p.0 }
 {
     [
         target_input(w, p, 0),

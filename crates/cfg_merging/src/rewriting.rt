@@ -14,7 +14,7 @@ use state_words::bundle_numbers::BundleNumber;
 use store::WORDS;
 
 fn rewrite_input(w: &mut [u16; WORDS], p: BundleNumber, k: u16)
-    ensures { w.new ≡ words.«rewrite_input» w.old p.0 k }
+    ensures { w.new ≡ words.rewrite_input w.old p.0 k }
 {
     let v = target_input(w, p, k);
     let x = look_up_noting(w, v);
@@ -22,7 +22,7 @@ fn rewrite_input(w: &mut [u16; WORDS], p: BundleNumber, k: u16)
 }
 
 fn rewrite_bundle(w: &mut [u16; WORDS], p: BundleNumber)
-    ensures { OfRecord w.old (λ g. w.new ≡ words.«rewrite_bundle» g w.old p.0) }
+    ensures { OfRecord w.old (λ g. w.new ≡ words.rewrite_bundle g w.old p.0) }
 {
     let n = target_input_count(w, target(w, p));
     let mut k: u16 = 0;
@@ -33,7 +33,7 @@ fn rewrite_bundle(w: &mut [u16; WORDS], p: BundleNumber)
 }
 
 fn rewrite_set(w: &mut [u16; WORDS], start: BundleNumber, n: u16)
-    ensures { OfRecord w.old (λ g. w.new ≡ words.«rewrite_set» g w.old start.0 n) }
+    ensures { OfRecord w.old (λ g. w.new ≡ words.rewrite_set g w.old start.0 n) }
 {
     let mut i: u16 = 0;
     while i < n {
@@ -43,7 +43,7 @@ fn rewrite_set(w: &mut [u16; WORDS], start: BundleNumber, n: u16)
 }
 
 fn rewrite_case_input(w: &mut [u16; WORDS], j: u16, k: u16)
-    ensures { w.new ≡ words.«rewrite_case_input» w.old j k }
+    ensures { w.new ≡ words.rewrite_case_input w.old j k }
 {
     let v = case_input(w, j, k);
     let x = look_up_noting(w, v);
@@ -51,7 +51,7 @@ fn rewrite_case_input(w: &mut [u16; WORDS], j: u16, k: u16)
 }
 
 fn rewrite_inputs(w: &mut [u16; WORDS], j: u16)
-    ensures { OfRecord w.old (λ g. w.new ≡ words.«rewrite_inputs» g w.old j) }
+    ensures { OfRecord w.old (λ g. w.new ≡ words.rewrite_inputs g w.old j) }
 {
     let n = fields::input_count(w, case_origin(w, j));
     let mut k: u16 = 0;
@@ -63,7 +63,7 @@ fn rewrite_inputs(w: &mut [u16; WORDS], j: u16)
 
 // What a claimed region is given.
 fn rewrite_given(w: &mut [u16; WORDS], j: u16)
-    ensures { OfRecord w.old (λ g. w.new ≡ words.«rewrite_given» g w.old j) }
+    ensures { OfRecord w.old (λ g. w.new ≡ words.rewrite_given g w.old j) }
 {
     if case_kind(w, j) == CLAIMED_REGION {
         rewrite_inputs(w, j);
@@ -72,7 +72,7 @@ fn rewrite_given(w: &mut [u16; WORDS], j: u16)
 }
 
 fn rewrite_case(w: &mut [u16; WORDS], j: u16)
-    ensures { OfRecord w.old (λ g. w.new ≡ words.«rewrite_case» g w.old j) }
+    ensures { OfRecord w.old (λ g. w.new ≡ words.rewrite_case g w.old j) }
 {
     rewrite_given(w, j);
     let start = case_start(w, j);
@@ -81,7 +81,7 @@ fn rewrite_case(w: &mut [u16; WORDS], j: u16)
 }
 
 pub fn rewrite_cases(w: &mut [u16; WORDS])
-    ensures { OfRecord w.old (λ g. w.new ≡ words.«rewrite_cases» g w.old) }
+    ensures { OfRecord w.old (λ g. w.new ≡ words.rewrite_cases g w.old) }
 {
     let n = case_count(w);
     let mut j: u16 = 0;

@@ -22,7 +22,7 @@ fn longer(n: u16, k: u16) -> u16
 }
 
 fn summarize_bundle(w: &mut [u16; WORDS], p: BundleNumber)
-    ensures { w.new ≡ words.«summarize_bundle» w.old p.0 }
+    ensures { w.new ≡ words.summarize_bundle w.old p.0 }
 {
     let start = set_start(w, SPARE);
     let n = set_length(w, SPARE);
@@ -39,7 +39,7 @@ fn summarize_bundle(w: &mut [u16; WORDS], p: BundleNumber)
 }
 
 fn summarize_set(w: &mut [u16; WORDS], start: BundleNumber, n: u16)
-    ensures { w.new ≡ words.«summarize_set» w.old start.0 n }
+    ensures { w.new ≡ words.summarize_set w.old start.0 n }
 {
     let mut i: u16 = 0;
     while i < n {
@@ -49,7 +49,7 @@ fn summarize_set(w: &mut [u16; WORDS], start: BundleNumber, n: u16)
 }
 
 pub fn deferred_targets(w: &mut [u16; WORDS])
-    ensures { w.new ≡ words.«deferred_targets» w.old }
+    ensures { w.new ≡ words.deferred_targets w.old }
 {
     put_set_length(w, SPARE, 0);
     let n = case_count(w);

@@ -23,7 +23,7 @@ pub const TO_DEFINE: u16 = 0;
 
 // The cases' bundles to a target.
 pub fn per_case_deferred(w: &[u16; WORDS], t: u16) -> [u16; 8]
-    ensures { result ≡ words.«per_case_deferred» w.now t }
+    ensures { result ≡ words.per_case_deferred w.now t }
 {
     let n = case_count(w);
     let mut places = [0u16; 8];
@@ -38,7 +38,7 @@ pub fn per_case_deferred(w: &[u16; WORDS], t: u16) -> [u16; 8]
 
 // Undef if the case ends, False if it goes elsewhere.
 pub fn per_case_condition(w: &[u16; WORDS], j: u16, p: BundleNumber) -> u16
-    ensures { result ≡ words.«per_case_condition» w.now j p.0 }
+    ensures { result ≡ words.per_case_condition w.now j p.0 }
 {
     let n = case_length(w, j);
     if n == 0 {
@@ -52,7 +52,7 @@ pub fn per_case_condition(w: &[u16; WORDS], j: u16, p: BundleNumber) -> u16
 
 // A case's value as one that is valid in the select's parent; TO_MERGE where it can't be.
 fn in_parent(w: &[u16; WORDS], j: u16, v: u16) -> u16
-    ensures { result ≡ words.«in_parent» w.now j v }
+    ensures { result ≡ words.in_parent w.now j v }
 {
     if case_kind(w, j) != CLAIMED_REGION {
         return v;
@@ -70,7 +70,7 @@ fn in_parent(w: &[u16; WORDS], j: u16, v: u16) -> u16
 
 // What the cases so far pass, with one more: TO_MERGE where they differ.
 fn with_passed(found: u16, v: u16) -> u16
-    ensures { result ≡ words.«with_passed» found v }
+    ensures { result ≡ words.with_passed found v }
 {
     if found == TO_MERGE {
         return v;
@@ -83,7 +83,7 @@ fn with_passed(found: u16, v: u16) -> u16
 
 // The Rust's unique_target_input_value: the same value in all cases that reach the target, else TO_MERGE.
 fn unique_input(w: &[u16; WORDS], places: &[u16; 8], k: u16) -> u16
-    ensures { result ≡ words.«unique_input» w.now places.now k }
+    ensures { result ≡ words.unique_input w.now places.now k }
 {
     let n = case_count(w);
     let mut found = TO_MERGE;
@@ -103,7 +103,7 @@ fn unique_input(w: &[u16; WORDS], places: &[u16; 8], k: u16) -> u16
 }
 
 fn is_true(c: u16) -> bool
-    ensures { result ≡ words.«is_true» c }
+    ensures { result ≡ words.is_true c }
 {
     if c == TRUE_COND {
         return true;
@@ -113,7 +113,7 @@ fn is_true(c: u16) -> bool
 
 // Document 01: a condition is True when every case is True or Undef.
 fn all_true(w: &[u16; WORDS], places: &[u16; 8]) -> bool
-    ensures { result ≡ words.«all_true» w.now places.now }
+    ensures { result ≡ words.all_true w.now places.now }
 {
     let n = case_count(w);
     let mut j: u16 = 0;
@@ -129,7 +129,7 @@ fn all_true(w: &[u16; WORDS], places: &[u16; 8]) -> bool
 
 // Each answers whether something is still to be made.
 fn plan_input(w: &mut [u16; WORDS], q: BundleNumber, places: &[u16; 8], k: u16) -> bool
-    ensures { words.planned w.new result ≡ words.«plan_input» w.old q.0 places.now k }
+    ensures { words.planned w.new result ≡ words.plan_input w.old q.0 places.now k }
 {
     let v = unique_input(w, places, k);
     set_target_input(w, q, k, v);
@@ -138,7 +138,7 @@ fn plan_input(w: &mut [u16; WORDS], q: BundleNumber, places: &[u16; 8], k: u16) 
 
 fn plan_inputs(w: &mut [u16; WORDS], q: BundleNumber, places: &[u16; 8]) -> bool
     ensures { OfRecord w.old (λ g.
-        words.planned w.new result ≡ words.«plan_inputs» g w.old q.0 places.now) }
+        words.planned w.new result ≡ words.plan_inputs g w.old q.0 places.now) }
 {
     let n = target_input_count(w, target(w, q));
     let mut merged = false;
@@ -153,7 +153,7 @@ fn plan_inputs(w: &mut [u16; WORDS], q: BundleNumber, places: &[u16; 8]) -> bool
 }
 
 fn plan_bundle(w: &mut [u16; WORDS], q: BundleNumber) -> bool
-    ensures { OfRecord w.old (λ g. words.planned w.new result ≡ words.«plan_bundle» g w.old q.0) }
+    ensures { OfRecord w.old (λ g. words.planned w.new result ≡ words.plan_bundle g w.old q.0) }
 {
     let places = per_case_deferred(w, target(w, q));
     let merged = plan_inputs(w, q, &places);
@@ -165,7 +165,7 @@ fn plan_bundle(w: &mut [u16; WORDS], q: BundleNumber) -> bool
 }
 
 pub fn plan_bundles(w: &mut [u16; WORDS]) -> bool
-    ensures { OfRecord w.old (λ g. words.planned w.new result ≡ words.«plan_bundles» g w.old) }
+    ensures { OfRecord w.old (λ g. words.planned w.new result ≡ words.plan_bundles g w.old) }
 {
     let start = set_start(w, SPARE);
     let n = set_length(w, SPARE);

@@ -1,7 +1,7 @@
 // A region that was structurized, claimed or not, by its state.
 ghost use Rattle.std.specs.Prelude.{◌≡◌, ◌≤◌};
 ghost use Rattle.record.specs.Stands.{OfRecord};
-ghost use Rattle.state_regions.specs.RegionTables.{«target_answer_stored»};
+ghost use Rattle.state_regions.specs.RegionTables.{target_answer_stored};
 ghost use Rattle.cfg_regions.specs.ByState as words;
 
 use cfg_loops::loops::structurize_loop;
@@ -24,7 +24,7 @@ pub enum Claim {
 }
 
 fn claim_from_made(made: Made) -> Claim
-    ensures { result ≡ words.«claim_of» made }
+    ensures { result ≡ words.claim_of made }
 {
     match made {
         Made::Done => Claim::Claimed,
@@ -34,7 +34,7 @@ fn claim_from_made(made: Made) -> Claim
 
 // The bundle of region r's set that leads back to it.
 pub fn find_backedge(w: &[u16; WORDS], r: u16) -> BundleNumber
-    ensures { result.0 ≡ words.«backedge_at» w.now r }
+    ensures { result.0 ≡ words.backedge_at w.now r }
 {
     find_by_target(w, set_start(w, r), set_length(w, r), r)
 }
@@ -78,7 +78,7 @@ pub fn claim_by_state(
 
 // Whether a region is Ready, Unreachable and childless: a failed claim of it defers nothing.
 fn is_trivial(w: &[u16; WORDS], t: u16) -> bool
-    ensures { result ≡ words.«is_trivial» w.now t }
+    ensures { result ≡ words.is_trivial w.now t }
 {
     if region_state(w, t) != READY {
         return false;
@@ -91,7 +91,7 @@ fn is_trivial(w: &[u16; WORDS], t: u16) -> bool
 
 // How the edge to a region that was not claimed is answered.
 fn unclaimed_edge(w: &[u16; WORDS], t: u16) -> u16
-    ensures { result ≡ words.«unclaimed_word» w.now t }
+    ensures { result ≡ words.unclaimed_word w.now t }
 {
     if is_trivial(w, t) {
         return TARGET_UNREACHABLE;
@@ -101,7 +101,7 @@ fn unclaimed_edge(w: &[u16; WORDS], t: u16) -> u16
 
 // Target j of region r is t, which was not claimed.
 pub fn defer_target(w: &mut [u16; WORDS], r: u16, j: u16, t: u16)
-    ensures { w.new ≡ «target_answer_stored» w.old r j (words.«unclaimed_word» w.old t) }
+    ensures { w.new ≡ target_answer_stored w.old r j (words.unclaimed_word w.old t) }
 {
     let x = unclaimed_edge(w, t);
     set_target_answer(w, r, j, x);

@@ -109,7 +109,7 @@ pub fn by_control_inst(w: &mut [u16; WORDS], r: u16) -> Made
 
 // Bundle i of region r's own set.
 pub fn own_bundle(w: &[u16; WORDS], r: u16, i: u16) -> BundleNumber
-    ensures { result.0 ≡ words.«own_bundle» w.now r i }
+    ensures { result.0 ≡ words.own_bundle w.now r i }
 {
     bundle_at(set_start(w, r), i)
 }
@@ -127,7 +127,7 @@ pub fn resolve_by(w: &mut [u16; WORDS], r: u16, i: u16) -> Made
 
 // How many back edges region r's own set has.
 fn backedges_deferred(w: &[u16; WORDS], r: u16) -> IncomingEdgeCount
-    ensures { (result.0 ≡ words.«backedges_deferred» w.now r) × (result.0 ≤ 65535) }
+    ensures { (result.0 ≡ words.backedges_deferred w.now r) × (result.0 ≤ 65535) }
 {
     let p = find_backedge(w, r);
     if p.0 == NO_BUNDLE {
@@ -138,7 +138,7 @@ fn backedges_deferred(w: &[u16; WORDS], r: u16) -> IncomingEdgeCount
 
 // The count of back edges is kept with the region.
 pub fn make_ready(w: &mut [u16; WORDS], r: u16)
-    ensures { w.new ≡ words.«made_ready» w.old r }
+    ensures { w.new ≡ words.made_ready w.old r }
 {
     let n = backedges_deferred(w, r);
     set_backedge_count(w, r, n);

@@ -16,7 +16,7 @@ use store::WORDS;
 
 // The place of the one case that is not Unreachable; 8 if there are none or more.
 pub fn convergent_case(w: &[u16; WORDS]) -> u16
-    ensures { result ≡ words.«convergent_case» w.now }
+    ensures { result ≡ words.convergent_case w.now }
 {
     let n = case_count(w);
     let mut found: u16 = 8;
@@ -35,7 +35,7 @@ pub fn convergent_case(w: &[u16; WORDS]) -> u16
 
 // The children of case j; only a claimed region has some.
 pub fn children_of(w: &[u16; WORDS], j: u16) -> Handle
-    ensures { result.0 ≡ words.«children_of» w.now j }
+    ensures { result.0 ≡ words.children_of w.now j }
 {
     if case_kind(w, j) == CLAIMED_REGION {
         return case_children(w, j);
@@ -44,7 +44,7 @@ pub fn children_of(w: &[u16; WORDS], j: u16) -> Handle
 }
 
 pub fn any_non_empty_case(w: &[u16; WORDS]) -> bool
-    ensures { result ≡ words.«any_non_empty_case» w.now }
+    ensures { result ≡ words.any_non_empty_case w.now }
 {
     let n = case_count(w);
     let mut j: u16 = 0;
@@ -74,7 +74,7 @@ fn case_region(w: &mut [u16; WORDS], j: u16) -> Made
 }
 
 pub fn case_regions(w: &mut [u16; WORDS]) -> Made
-    ensures { turns.Turns words.GetsRegion (tables.«case_total» w.old) 0 w.old w.new result }
+    ensures { turns.Turns words.GetsRegion (tables.case_total w.old) 0 w.old w.new result }
 {
     let n = case_count(w);
     let mut j: u16 = 0;
@@ -88,7 +88,7 @@ pub fn case_regions(w: &mut [u16; WORDS]) -> Made
 }
 
 fn replace_input(w: &mut [u16; WORDS], j: u16)
-    ensures { w.new ≡ words.«inputs_replaced» w.old j }
+    ensures { w.new ≡ words.inputs_replaced w.old j }
 {
     if case_kind(w, j) == CLAIMED_REGION {
         let vs = case_inputs(w, j);
@@ -100,7 +100,7 @@ fn replace_input(w: &mut [u16; WORDS], j: u16)
 
 // Only as the very last step the claimed cases' inputs are replaced.
 pub fn replace_inputs(w: &mut [u16; WORDS])
-    ensures { w.new ≡ words.«all_replaced» w.old (tables.«case_total» w.old) 0 }
+    ensures { w.new ≡ words.all_replaced w.old (tables.case_total w.old) 0 }
 {
     let n = case_count(w);
     let mut j: u16 = 0;

@@ -29,7 +29,7 @@ fn scrutinee_value(w: &mut [u16; WORDS], scrutinee: Scrutinee) -> Defined
 
 // The cells of the cases, the last first.
 fn case_cells(w: &mut [u16; WORDS]) -> Handle
-    ensures { words.CaseCells (tables.«case_total» w.old) 0 w.old w.new result.0 }
+    ensures { words.CaseCells (tables.case_total w.old) 0 w.old w.new result.0 }
 {
     let mut h = Handle(0);
     let mut j = case_count(w);

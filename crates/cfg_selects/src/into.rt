@@ -58,7 +58,7 @@ fn structurize_select(w: &mut [u16; WORDS], r: u16, shape: u16, scrutinee: Scrut
 
 // The set that was made in the spare slot becomes region r's.
 fn take_spare(w: &mut [u16; WORDS], r: u16)
-    ensures { w.new ≡ words.«spare_taken» w.old r }
+    ensures { w.new ≡ words.spare_taken w.old r }
 {
     let n = set_length(w, SPARE);
     swap_sets(w, r, SPARE);

@@ -13,7 +13,7 @@ use store::WORDS;
 
 // Of the record's n regions.
 fn start_kinds(w: &mut [u16; WORDS], n: u16)
-    ensures { w.new ≡ words.«nothing_begun» n w.old }
+    ensures { w.new ≡ words.nothing_begun n w.old }
 {
     let mut r: u16 = 0;
     while r < n {
@@ -24,7 +24,7 @@ fn start_kinds(w: &mut [u16; WORDS], n: u16)
 
 // Of the record's n regions, and the spare one.
 fn start_slots(w: &mut [u16; WORDS], n: u16)
-    ensures { w.new ≡ words.«slots_placed» n w.old }
+    ensures { w.new ≡ words.slots_placed n w.old }
 {
     let mut a: u16 = 0;
     while a < n {

@@ -46,7 +46,7 @@ fn write_with_figure(w: &[u16; WORDS], out: &mut [u32], outcome: u16) -> SheetAn
 
 // The refusal as a user reads it.
 fn refused(why: Refusal) -> SheetAnswer
-    ensures { result ≡ answers.«refused_with» why }
+    ensures { result ≡ answers.refused_with why }
 {
     SheetAnswer::Refused(number(why), word(why))
 }

@@ -8,7 +8,7 @@ use store::WORDS;
 
 // What was noted while nesting, or by the last rewriting.
 fn twice_word(w: &[u16; WORDS], at: Place) -> u16
-    ensures { result ≡ written.«twice_word» w.now at }
+    ensures { result ≡ written.twice_word w.now at }
 {
     if at.twice {
         return 1;

@@ -17,7 +17,7 @@ use store::WORDS;
 
 fn put_read(w: &[u16; WORDS], out: &mut [u32], at: Place, r: u16, b: u16, i: u16, k: u16) -> Place
     ensures { OfState w.now (λ g s. k < length (instr_of g r b i).reads → Puts out.old at
-        (parts.«value_part» s (get_or (instr_of g r b i).reads k no_value)) out.new result) }
+        (parts.value_part s (get_or (instr_of g r b i).reads k no_value)) out.new result) }
 {
     let v = fields::read(w, r, b, i, k);
     put_value(w, out, at, value_word(v))
@@ -26,7 +26,7 @@ fn put_read(w: &[u16; WORDS], out: &mut [u32], at: Place, r: u16, b: u16, i: u16
 // The reads of an instruction, n of them, with their count in front.
 fn put_reads(w: &[u16; WORDS], out: &mut [u32], at: Place, r: u16, b: u16, i: u16, n: u16) -> Place
     ensures { OfState w.now (λ g s. n ≡ length (instr_of g r b i).reads → Puts out.old at
-        (parts.«values_part» s (instr_of g r b i).reads) out.new result) }
+        (parts.values_part s (instr_of g r b i).reads) out.new result) }
 {
     let mut front = at;
     let mut k = n;
@@ -61,7 +61,7 @@ fn put_item(
 // Block b of region r, as this node.
 pub fn put_block(w: &[u16; WORDS], out: &mut [u32], at: Place, r: u16, b: u16, node: u32) -> Place
     ensures { OfState w.now (λ g s. Puts out.old at
-        (parts.«node_part» s (block node r (instructions_before (region g r).blocks b) (block_of g r b))) out.new result) }
+        (parts.node_part s (block node r (instructions_before (region g r).blocks b) (block_of g r b))) out.new result) }
 {
     let n = fields::block_length(w, r, b);
     let first = fields::instructions_before(w, r, b);
@@ -78,7 +78,7 @@ pub fn put_block(w: &[u16; WORDS], out: &mut [u32], at: Place, r: u16, b: u16, n
 
 // The blocks of region r, in order.
 pub fn put_blocks(w: &[u16; WORDS], out: &mut [u32], at: Place, r: u16) -> Place
-    ensures { OfState w.now (λ g s. Puts out.old at (parts.«nodes_part» s (blocks_of g r))
+    ensures { OfState w.now (λ g s. Puts out.old at (parts.nodes_part s (blocks_of g r))
         out.new result) }
 {
     let first = fields::blocks_before(w, r);

@@ -18,7 +18,7 @@ use store::WORDS;
 
 fn put_end_value(w: &[u16; WORDS], out: &mut [u32], at: Place, r: u16, k: u16) -> Place
     ensures { OfState w.now (λ g s. k < length (end_values g r) → Puts out.old at
-        (parts.«value_part» s (get_or (end_values g r) k no_value)) out.new result) }
+        (parts.value_part s (get_or (end_values g r) k no_value)) out.new result) }
 {
     let v = fields::value(w, r, k);
     put_value(w, out, at, value_word(v))
@@ -26,7 +26,7 @@ fn put_end_value(w: &[u16; WORDS], out: &mut [u32], at: Place, r: u16, k: u16) -
 
 // The values of region r's terminator, with their count in front.
 pub fn put_end_values(w: &[u16; WORDS], out: &mut [u32], at: Place, r: u16) -> Place
-    ensures { OfState w.now (λ g s. Puts out.old at (parts.«values_part» s (end_values g r))
+    ensures { OfState w.now (λ g s. Puts out.old at (parts.values_part s (end_values g r))
         out.new result) }
 {
     let n = fields::value_count(w, r);
@@ -54,7 +54,7 @@ fn opcode(w: &[u16; WORDS], r: u16) -> u16
 // The exit of region r, as this node.
 pub fn put_exit(w: &[u16; WORDS], out: &mut [u32], at: Place, node: u16, r: u16) -> Place
     ensures { OfState w.now (λ g s. (op : ℕ) (vs : List graph.Value) → (region g r).terminator ≡ exit_invocation op vs
-        → Puts out.old at (parts.«node_part» s (exit node op vs)) out.new result) }
+        → Puts out.old at (parts.node_part s (exit node op vs)) out.new result) }
 {
     let values = put_end_values(w, out, at, r);
     let op = opcode(w, r);

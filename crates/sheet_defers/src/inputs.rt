@@ -14,7 +14,7 @@ use store::WORDS;
 // In its own line, or as the outputs of a whole form.
 pub fn put_target_inputs(w: &[u16; WORDS], out: &mut [u32], at: Place, p: BundleNumber) -> Place
     ensures { OfState w.now (λ g s. (e : DeferredEdgeBundle) → ShowsBundle g w.now p.0 e
-        → Puts out.old at (values_part s e.«target_inputs») out.new result) }
+        → Puts out.old at (values_part s e.target_inputs) out.new result) }
 {
     let n = target_input_count(w, target(w, p));
     let mut to = at;

@@ -14,7 +14,7 @@ use store::WORDS;
 
 // What is passed back at the end of a turn, or what is passed to the first one.
 fn kept_value(w: &[u16; WORDS], h: Handle, back: bool) -> u16
-    ensures { result ≡ kept.«kept_word» w.now back h.0 }
+    ensures { result ≡ kept.kept_word w.now back h.0 }
 {
     if back {
         return kept_back(w, h);
@@ -31,7 +31,7 @@ pub fn put_kept_values(
     back: bool,
 ) -> Place
     ensures { OfState w.now (λ g s. (r : ℕ) (y : LoopInputs) → kept.KeepsInputs g w.now r list.0 y
-        → Puts out.old at (values_part s (kept.«kept_values» back y)) out.new result) }
+        → Puts out.old at (values_part s (kept.kept_values back y)) out.new result) }
 {
     let mut to = at;
     let mut n: u16 = 0;

@@ -20,7 +20,7 @@ use store::WORDS;
 
 // How many lists stand inside cell h.
 pub fn inner_total(w: &[u16; WORDS], h: Handle) -> u16
-    ensures { inside.InnerTotal w.now h.0 result (rows.«cell_tag» w.now h.0) }
+    ensures { inside.InnerTotal w.now h.0 result (rows.cell_tag w.now h.0) }
 {
     let tag = cell_tag(w, h);
     if tag == SELECT {
@@ -37,7 +37,7 @@ pub fn inner_total(w: &[u16; WORDS], h: Handle) -> u16
 
 // The list inside it at place j.
 pub fn inner_at(w: &[u16; WORDS], h: Handle, j: u16) -> Handle
-    ensures { result.0 ≡ inside.«inner_at» w.now h.0 j }
+    ensures { result.0 ≡ inside.inner_at w.now h.0 j }
 {
     let tag = cell_tag(w, h);
     if tag == SELECT {
@@ -52,7 +52,7 @@ pub fn inner_at(w: &[u16; WORDS], h: Handle, j: u16) -> Handle
 
 // Whether a list is a loop alone: nothing stands before a loop.
 fn is_loop(w: &[u16; WORDS], list: Handle) -> bool
-    ensures { result ≡ inside.«is_Loop» w.now list.0 }
+    ensures { result ≡ inside.is_loop w.now list.0 }
 {
     if list.0 == 0 {
         return false;
@@ -62,7 +62,7 @@ fn is_loop(w: &[u16; WORDS], list: Handle) -> bool
 
 // The list that is walked for a list: of a loop alone its body's.
 pub fn walked_list(w: &[u16; WORDS], list: Handle) -> Handle
-    ensures { result.0 ≡ inside.«walked_list» w.now list.0 }
+    ensures { result.0 ≡ inside.walked_list w.now list.0 }
 {
     if is_loop(w, list) {
         return loop_body(w, list);
@@ -83,7 +83,7 @@ fn put_walked_lines(w: &[u16; WORDS], out: &mut [u32], at: Place, list: Handle) 
 // The line before a list inside: only a case has one.
 fn put_inner_line(w: &[u16; WORDS], out: &mut [u32], at: Place, h: Handle, j: u16) -> Place
     ensures { inside.InnerLine w.now h.0 j out.old at
-        out.new result (rows.«cell_tag» w.now h.0) }
+        out.new result (rows.cell_tag w.now h.0) }
 {
     if cell_tag(w, h) == SELECT {
         let c = case_cell(w, select_cases(w, h), j);
@@ -95,7 +95,7 @@ fn put_inner_line(w: &[u16; WORDS], out: &mut [u32], at: Place, h: Handle, j: u1
 // The cell's own lines, before all that stands inside it.
 fn put_own_lines(w: &[u16; WORDS], out: &mut [u32], at: Place, h: Handle) -> Place
     ensures { inside.OwnLines w.now h.0 out.old at
-        out.new result (rows.«cell_tag» w.now h.0) }
+        out.new result (rows.cell_tag w.now h.0) }
 {
     let tag = cell_tag(w, h);
     if tag == BLOCKS {

@@ -74,7 +74,7 @@ fn put_case_numbers(w: &[u16; WORDS], out: &mut [u32], at: Place, list: Handle) 
 
 // ---- The lines.
 fn kind_word(shape: u16) -> u16
-    ensures { result ≡ lines.«kind_word» shape }
+    ensures { result ≡ lines.kind_word shape }
 {
     if shape == BOOL_COND {
         return BOOL_SELECT;

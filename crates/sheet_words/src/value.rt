@@ -14,7 +14,7 @@ use store::WORDS;
 
 // The node of an output; 0 beyond those that were defined.
 fn node_of(w: &[u16; WORDS], o: u16) -> u16
-    ensures { result ≡ words.«node_of» w.now o }
+    ensures { result ≡ words.node_of w.now o }
 {
     if o < output_count(w) {
         return output_node(w, o);
@@ -33,7 +33,7 @@ fn least(a: u16, b: u16) -> u16
 
 // How many of the outputs before o are the node's.
 fn place_among(w: &[u16; WORDS], node: u16, o: u16) -> u16
-    ensures { result ≡ words.«place_among» w.now node o }
+    ensures { result ≡ words.place_among w.now node o }
 {
     let end = least(o, output_count(w));
     let mut sum: u16 = 0;
@@ -48,7 +48,7 @@ fn place_among(w: &[u16; WORDS], node: u16, o: u16) -> u16
 }
 
 fn put_output(w: &[u16; WORDS], out: &mut [u32], at: Place, o: u16) -> Place
-    ensures { Puts out.old at (plain (words.«output_words» w.now o)) out.new result }
+    ensures { Puts out.old at (plain (words.output_words w.now o)) out.new result }
 {
     let node = node_of(w, o);
     // Where no word is lent its place among the node's need not be known.
@@ -60,7 +60,7 @@ fn put_output(w: &[u16; WORDS], out: &mut [u32], at: Place, o: u16) -> Place
 }
 
 fn put_parts(w: &[u16; WORDS], out: &mut [u32], at: Place, v: u16) -> Place
-    ensures { Puts out.old at (plain (words.«value_words» w.now v)) out.new result }
+    ensures { Puts out.old at (plain (words.value_words w.now v)) out.new result }
 {
     let p = parts_of(v);
     if p.kind == 3 {
@@ -71,7 +71,7 @@ fn put_parts(w: &[u16; WORDS], out: &mut [u32], at: Place, v: u16) -> Place
 
 pub fn put_value(w: &[u16; WORDS], out: &mut [u32], at: Place, v: u16) -> Place
     ensures { parts.OfState w.now (λ g s.
-        Puts out.old at (parts.«value_part» s (value v)) out.new result) }
+        Puts out.old at (parts.value_part s (value v)) out.new result) }
 {
     let x = look_up(w, v);
     let noted = note(at, x.twice);

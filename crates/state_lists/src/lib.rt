@@ -10,7 +10,7 @@ use store::WORDS;
 
 // The list before a cell; a loop stands alone, and what it names there is its body.
 pub fn list_before(w: &[u16; WORDS], h: Handle) -> Handle
-    ensures { result.0 ≡ cells.«list_before» w.now h.0 }
+    ensures { result.0 ≡ cells.list_before w.now h.0 }
 {
     if cell_tag(w, h) == LOOP {
         return Handle(0);
@@ -33,7 +33,7 @@ pub fn case_total(w: &[u16; WORDS], list: Handle) -> u16
 
 // The cell of the case at place j of them.
 pub fn case_cell(w: &[u16; WORDS], list: Handle, j: u16) -> Handle
-    ensures { result.0 ≡ cells.«case_cell» w.now list.0 j }
+    ensures { result.0 ≡ cells.case_cell w.now list.0 j }
 {
     let mut h = list;
     let mut i: u16 = 0;

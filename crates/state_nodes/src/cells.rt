@@ -78,7 +78,7 @@ pub enum Cell {
 
 fn cell_word(w: &[u16; WORDS], h: Handle, i: usize) -> u16
     requires { i ≤ 65600 }
-    ensures { result ≡ rows.«cell_word» w.now h.0 i }
+    ensures { result ≡ rows.cell_word w.now h.0 i }
 {
     get(w, CELLS, ROW * (h.0 as usize) + i)
 }
@@ -96,149 +96,149 @@ fn earlier(p: u16, h: Handle) -> Handle
 // The list that a cell names at one of its words.
 fn list_word(w: &[u16; WORDS], h: Handle, i: usize) -> Handle
     requires { i ≤ 65600 }
-    ensures { result.0 ≡ rows.earlier (rows.«cell_word» w.now h.0 i) h.0 }
+    ensures { result.0 ≡ rows.earlier (rows.cell_word w.now h.0 i) h.0 }
 {
     earlier(cell_word(w, h, i), h)
 }
 
 pub fn cell_tag(w: &[u16; WORDS], h: Handle) -> u16
-    ensures { result ≡ rows.«cell_tag» w.now h.0 }
+    ensures { result ≡ rows.cell_tag w.now h.0 }
 {
     cell_word(w, h, 0)
 }
 
 // The list that a cell follows.
 pub fn cell_before(w: &[u16; WORDS], h: Handle) -> Handle
-    ensures { result.0 ≡ rows.«cell_before» w.now h.0 }
+    ensures { result.0 ≡ rows.cell_before w.now h.0 }
 {
     list_word(w, h, 1)
 }
 
 // The node of an exit, a select or a loop.
 pub fn cell_node(w: &[u16; WORDS], h: Handle) -> u16
-    ensures { result ≡ rows.«cell_node» w.now h.0 }
+    ensures { result ≡ rows.cell_node w.now h.0 }
 {
     cell_word(w, h, 2)
 }
 
 pub fn blocks_region(w: &[u16; WORDS], h: Handle) -> u16
-    ensures { result ≡ rows.«blocks_region» w.now h.0 }
+    ensures { result ≡ rows.blocks_region w.now h.0 }
 {
     cell_word(w, h, 2)
 }
 
 pub fn join_list(w: &[u16; WORDS], h: Handle) -> Handle
-    ensures { result.0 ≡ rows.«join_list» w.now h.0 }
+    ensures { result.0 ≡ rows.join_list w.now h.0 }
 {
     list_word(w, h, 2)
 }
 
 pub fn exit_node(w: &[u16; WORDS], h: Handle) -> u16
-    ensures { result ≡ rows.«exit_node» w.now h.0 }
+    ensures { result ≡ rows.exit_node w.now h.0 }
 {
     cell_word(w, h, 2)
 }
 
 pub fn exit_region(w: &[u16; WORDS], h: Handle) -> u16
-    ensures { result ≡ rows.«exit_region» w.now h.0 }
+    ensures { result ≡ rows.exit_region w.now h.0 }
 {
     cell_word(w, h, 3)
 }
 
 pub fn select_node(w: &[u16; WORDS], h: Handle) -> u16
-    ensures { result ≡ rows.«select_node» w.now h.0 }
+    ensures { result ≡ rows.select_node w.now h.0 }
 {
     cell_word(w, h, 2)
 }
 
 pub fn select_shape(w: &[u16; WORDS], h: Handle) -> u16
-    ensures { result ≡ rows.«select_shape» w.now h.0 }
+    ensures { result ≡ rows.select_shape w.now h.0 }
 {
     cell_word(w, h, 3)
 }
 
 pub fn select_scrutinee(w: &[u16; WORDS], h: Handle) -> u16
-    ensures { result ≡ rows.«select_scrutinee» w.now h.0 }
+    ensures { result ≡ rows.select_scrutinee w.now h.0 }
 {
     cell_word(w, h, 4)
 }
 
 pub fn select_cases(w: &[u16; WORDS], h: Handle) -> Handle
-    ensures { result.0 ≡ rows.«select_cases» w.now h.0 }
+    ensures { result.0 ≡ rows.select_cases w.now h.0 }
 {
     list_word(w, h, 5)
 }
 
 // The children of a loop's body.
 pub fn loop_body(w: &[u16; WORDS], h: Handle) -> Handle
-    ensures { result.0 ≡ rows.«loop_body» w.now h.0 }
+    ensures { result.0 ≡ rows.loop_body w.now h.0 }
 {
     list_word(w, h, 1)
 }
 
 pub fn loop_node(w: &[u16; WORDS], h: Handle) -> u16
-    ensures { result ≡ rows.«loop_node» w.now h.0 }
+    ensures { result ≡ rows.loop_node w.now h.0 }
 {
     cell_word(w, h, 2)
 }
 
 pub fn loop_header(w: &[u16; WORDS], h: Handle) -> u16
-    ensures { result ≡ rows.«loop_header» w.now h.0 }
+    ensures { result ≡ rows.loop_header w.now h.0 }
 {
     cell_word(w, h, 3)
 }
 
 pub fn loop_repeat(w: &[u16; WORDS], h: Handle) -> u16
-    ensures { result ≡ rows.«loop_repeat» w.now h.0 }
+    ensures { result ≡ rows.loop_repeat w.now h.0 }
 {
     cell_word(w, h, 4)
 }
 
 pub fn loop_kept(w: &[u16; WORDS], h: Handle) -> Handle
-    ensures { result.0 ≡ rows.«loop_kept» w.now h.0 }
+    ensures { result.0 ≡ rows.loop_kept w.now h.0 }
 {
     list_word(w, h, 5)
 }
 
 pub fn cases_after(w: &[u16; WORDS], h: Handle) -> Handle
-    ensures { result.0 ≡ rows.«cases_after» w.now h.0 }
+    ensures { result.0 ≡ rows.cases_after w.now h.0 }
 {
     list_word(w, h, 1)
 }
 
 pub fn case_region(w: &[u16; WORDS], h: Handle) -> u16
-    ensures { result ≡ rows.«case_region» w.now h.0 }
+    ensures { result ≡ rows.case_region w.now h.0 }
 {
     cell_word(w, h, 2)
 }
 
 pub fn children_of_case(w: &[u16; WORDS], h: Handle) -> Handle
-    ensures { result.0 ≡ rows.«children_of_case» w.now h.0 }
+    ensures { result.0 ≡ rows.children_of_case w.now h.0 }
 {
     list_word(w, h, 3)
 }
 
 pub fn kept_input(w: &[u16; WORDS], h: Handle) -> u16
-    ensures { result ≡ rows.«kept_input» w.now h.0 }
+    ensures { result ≡ rows.kept_input w.now h.0 }
 {
     cell_word(w, h, 2)
 }
 
 pub fn kept_wrapper(w: &[u16; WORDS], h: Handle) -> u16
-    ensures { result ≡ rows.«kept_wrapper» w.now h.0 }
+    ensures { result ≡ rows.kept_wrapper w.now h.0 }
 {
     cell_word(w, h, 3)
 }
 
 pub fn kept_back(w: &[u16; WORDS], h: Handle) -> u16
-    ensures { result ≡ rows.«Kept-back» w.now h.0 }
+    ensures { result ≡ rows.kept_back w.now h.0 }
 {
     cell_word(w, h, 4)
 }
 
 // The six words of a cell: its tag, the list before it, and what its tag has.
 fn cell_words(x: Cell) -> [u16; 6]
-    ensures { result ≡ tables.«cell_words» x }
+    ensures { result ≡ tables.cell_words x }
 {
     match x {
         Cell::Blocks { region } => [BLOCKS, 0, region, 0, 0, 0],

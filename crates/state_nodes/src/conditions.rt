@@ -28,39 +28,39 @@ pub const BOOL_COND: u16 = 0;
 
 fn cond_word(w: &[u16; WORDS], c: u16, i: usize) -> u16
     requires { i ≤ 65600 }
-    ensures { result ≡ sections.word w.now sections.conditions (rows.«merge_word_at» c i) }
+    ensures { result ≡ sections.word w.now sections.conditions (rows.merge_word_at c i) }
 {
     get(w, CONDITIONS, ROW * (c as usize) + i)
 }
 
 // The cell of its select, where node, shape and scrutinee stand.
 fn cond_select(w: &[u16; WORDS], c: u16) -> Handle
-    ensures { result.0 ≡ rows.«merge_select» w.now c }
+    ensures { result.0 ≡ rows.merge_select w.now c }
 {
     Handle(cond_word(w, c, 0))
 }
 
 pub fn cond_node(w: &[u16; WORDS], c: u16) -> u16
-    ensures { result ≡ tables.«Select-IsWord» w.now c 2 }
+    ensures { result ≡ tables.select_word w.now c 2 }
 {
     select_node(w, cond_select(w, c))
 }
 
 pub fn cond_shape(w: &[u16; WORDS], c: u16) -> u16
-    ensures { result ≡ tables.«Select-IsWord» w.now c 3 }
+    ensures { result ≡ tables.select_word w.now c 3 }
 {
     select_shape(w, cond_select(w, c))
 }
 
 pub fn cond_scrutinee(w: &[u16; WORDS], c: u16) -> u16
-    ensures { result ≡ tables.«Select-IsWord» w.now c 4 }
+    ensures { result ≡ tables.select_word w.now c 4 }
 {
     select_scrutinee(w, cond_select(w, c))
 }
 
 // An earlier condition.
 pub fn cond_part(w: &[u16; WORDS], c: u16, j: u16) -> u16
-    ensures { result ≡ tables.«earlier_part» (rows.«merge_part» w.now c j) c }
+    ensures { result ≡ tables.earlier_part (rows.merge_part w.now c j) c }
 {
     let p = cond_word(w, c, 1 + (j as usize));
     if p < c {
@@ -71,7 +71,7 @@ pub fn cond_part(w: &[u16; WORDS], c: u16, j: u16) -> u16
 
 // How many cases a select of this shape has.
 pub fn shape_size(shape: u16) -> u16
-    ensures { result ≡ tables.«Shape-size» shape }
+    ensures { result ≡ tables.shape_size shape }
 {
     if shape == BOOL_COND {
         return 2;

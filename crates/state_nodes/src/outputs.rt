@@ -12,26 +12,26 @@ use store::WORDS;
 const ROW: usize = 10;
 
 pub fn output_count(w: &[u16; WORDS]) -> u16
-    ensures { result ≡ sections.word w.now sections.head rows.«outputs_at» }
+    ensures { result ≡ sections.word w.now sections.head rows.outputs_at }
 {
     head(w, OUTPUT_TOTAL)
 }
 
 pub fn output_node(w: &[u16; WORDS], o: u16) -> u16
-    ensures { result ≡ rows.«output_node» w.now o }
+    ensures { result ≡ rows.output_node w.now o }
 {
     get(w, OUTPUTS, ROW * (o as usize))
 }
 
 pub fn output_type(w: &[u16; WORDS], o: u16) -> u16
-    ensures { result ≡ rows.«output_type» w.now o }
+    ensures { result ≡ rows.output_type w.now o }
 {
     get(w, OUTPUTS, ROW * (o as usize) + 1)
 }
 
 // In the case at place j.
 pub fn output_value(w: &[u16; WORDS], o: u16, j: u16) -> u16
-    ensures { result ≡ rows.«output_value» w.now o j }
+    ensures { result ≡ rows.output_value w.now o j }
 {
     get(w, OUTPUTS, ROW * (o as usize) + 2 + (j as usize))
 }

@@ -29,7 +29,7 @@ fn entries(w: &[u16; WORDS]) -> u16
 }
 
 pub fn rewrite_kind(w: &[u16; WORDS], r: u16) -> u16
-    ensures { result ≡ tables.«rewrite_kind» w.now r }
+    ensures { result ≡ tables.rewrite_kind w.now r }
 {
     if r < entries(w) {
         return get(w, REWRITES, ROW * (r as usize));
@@ -38,20 +38,20 @@ pub fn rewrite_kind(w: &[u16; WORDS], r: u16) -> u16
 }
 
 pub fn rewrite_value(w: &[u16; WORDS], r: u16, k: u16) -> u16
-    ensures { result ≡ rows.«rewrite_value» w.now r k }
+    ensures { result ≡ rows.rewrite_value w.now r k }
 {
     get(w, REWRITES, ROW * (r as usize) + 1 + (k as usize))
 }
 
 pub fn set_no_rewrites(w: &mut [u16; WORDS])
-    ensures { w.new ≡ sections.stored w.old sections.rewrites rows.«entries_at» 0 }
+    ensures { w.new ≡ sections.stored w.old sections.rewrites rows.entries_at 0 }
 {
     put(w, REWRITES, ENTRIES, 0);
 }
 
 // Entries are set up to region r's: those between, to none.
 fn reach(w: &mut [u16; WORDS], r: u16)
-    requires { r < limits.«most_regions» }
+    requires { r < limits.most_regions }
     ensures { w.new ≡ tables.reached w.old r }
 {
     let mut q = entries(w);

@@ -35,20 +35,20 @@ pub struct Case {
 
 fn word(w: &[u16; WORDS], j: u16, i: usize) -> u16
     requires { i ≤ 65600 }
-    ensures { result ≡ rows.«case_word» w.now j i }
+    ensures { result ≡ rows.case_word w.now j i }
 {
     get(w, CASES, ROW * (j as usize) + i)
 }
 
 fn set_word(w: &mut [u16; WORDS], j: u16, i: usize, x: u16)
     requires { i ≤ 65600 }
-    ensures { w.new ≡ sections.stored w.old sections.cases (rows.«case_word_at» j i) x }
+    ensures { w.new ≡ sections.stored w.old sections.cases (rows.case_word_at j i) x }
 {
     put(w, CASES, ROW * (j as usize) + i, x);
 }
 
 pub fn case_count(w: &[u16; WORDS]) -> u16
-    ensures { result ≡ tables.«case_total» w.now }
+    ensures { result ≡ tables.case_total w.now }
 {
     let n = head(w, CASE_TOTAL);
     if n < 8 {
@@ -58,70 +58,70 @@ pub fn case_count(w: &[u16; WORDS]) -> u16
 }
 
 pub fn set_case_count(w: &mut [u16; WORDS], n: u16)
-    ensures { w.new ≡ sections.stored w.old sections.head rows.«cases_at» n }
+    ensures { w.new ≡ sections.stored w.old sections.head rows.cases_at n }
 {
     set_head(w, CASE_TOTAL, n);
 }
 
 pub fn case_kind(w: &[u16; WORDS], j: u16) -> u16
-    ensures { result ≡ rows.«case_kind» w.now j }
+    ensures { result ≡ rows.case_kind w.now j }
 {
     word(w, j, 0)
 }
 
 pub fn case_origin(w: &[u16; WORDS], j: u16) -> u16
-    ensures { result ≡ rows.«case_origin» w.now j }
+    ensures { result ≡ rows.case_origin w.now j }
 {
     word(w, j, 1)
 }
 
 // The region of the case: of a claimed one its structured body, of another the region that is defined for it.
 pub fn case_body(w: &[u16; WORDS], j: u16) -> u16
-    ensures { result ≡ rows.«case_body» w.now j }
+    ensures { result ≡ rows.case_body w.now j }
 {
     word(w, j, 2)
 }
 
 pub fn set_case_body(w: &mut [u16; WORDS], j: u16, r: u16)
-    ensures { w.new ≡ sections.stored w.old sections.cases (rows.«case_body_at» j) r }
+    ensures { w.new ≡ sections.stored w.old sections.cases (rows.case_body_at j) r }
 {
     set_word(w, j, 2, r);
 }
 
 pub fn case_children(w: &[u16; WORDS], j: u16) -> Handle
-    ensures { result.0 ≡ rows.«case_children» w.now j }
+    ensures { result.0 ≡ rows.case_children w.now j }
 {
     Handle(word(w, j, 3))
 }
 
 pub fn case_start(w: &[u16; WORDS], j: u16) -> BundleNumber
-    ensures { result.0 ≡ rows.«case_set_start» w.now j }
+    ensures { result.0 ≡ rows.case_set_start w.now j }
 {
     BundleNumber(word(w, j, 4))
 }
 
 pub fn case_length(w: &[u16; WORDS], j: u16) -> u16
-    ensures { result ≡ rows.«case_set_length» w.now j }
+    ensures { result ≡ rows.case_set_length w.now j }
 {
     word(w, j, 5)
 }
 
 // What a claimed region is given: its structured body's inputs.
 pub fn case_input(w: &[u16; WORDS], j: u16, k: u16) -> u16
-    ensures { result ≡ rows.«case_input» w.now j k }
+    ensures { result ≡ rows.case_input w.now j k }
 {
     word(w, j, 6 + (k as usize))
 }
 
 pub fn set_case_input(w: &mut [u16; WORDS], j: u16, k: u16, v: u16)
-    ensures { w.new ≡ sections.stored w.old sections.cases (rows.«case_input_at» j k) v }
+    ensures { w.new ≡ sections.stored w.old sections.cases (rows.case_input_at j k) v }
 {
     set_word(w, j, 6 + (k as usize), v);
 }
 
 pub fn set_case(w: &mut [u16; WORDS], j: u16, x: Case)
-    ensures { w.new ≡ sections.«stored_all» w.old sections.cases (rows.«case_row_at» j)
-        (tables.«case_words» x) }
+    ensures { w.new ≡ sections.stored_all w.old sections.cases (rows.case_row_at j)
+        (tables.case_words x) }
 {
     let xs = [x.kind, x.origin, x.body, x.children.0, x.start.0, x.length];
     put_all(w, CASES, ROW * (j as usize), &xs);
@@ -129,13 +129,13 @@ pub fn set_case(w: &mut [u16; WORDS], j: u16, x: Case)
 
 // All four of its inputs.
 pub fn set_case_inputs(w: &mut [u16; WORDS], j: u16, vs: &[u16; 4])
-    ensures { w.new ≡ sections.«stored_all» w.old sections.cases (rows.«case_word_at» j 6) vs.now }
+    ensures { w.new ≡ sections.stored_all w.old sections.cases (rows.case_word_at j 6) vs.now }
 {
     put_all(w, CASES, ROW * (j as usize) + 6, vs);
 }
 
 pub fn case_at(w: &[u16; WORDS], j: u16) -> Case
-    ensures { result ≡ tables.«case_row» w.now j }
+    ensures { result ≡ tables.case_row w.now j }
 {
     Case {
         kind: case_kind(w, j),

@@ -40,7 +40,7 @@ pub fn backedge_count(w: &[u16; WORDS], r: u16) -> IncomingEdgeCount
 }
 
 pub fn set_backedge_count(w: &mut [u16; WORDS], r: u16, n: IncomingEdgeCount)
-    ensures { w.new ≡ sections.stored w.old sections.backedges r (totals.«edges_word» n.0) }
+    ensures { w.new ≡ sections.stored w.old sections.backedges r (totals.edges_word n.0) }
 {
     put(w, BACKEDGES, r as usize, n.to_word());
 }
@@ -78,7 +78,7 @@ pub const TARGET_DEFERRED: u16 = 1;
 pub const TARGET_CLAIMED: u16 = 2;
 
 pub fn target_answer(w: &[u16; WORDS], r: u16, j: u16) -> u16
-    ensures { result ≡ tables.«target_answer» w.now r j }
+    ensures { result ≡ tables.target_answer w.now r j }
 {
     if j < 8 {
         return get(w, LEVELS, ROW * (r as usize) + (j as usize));
@@ -87,7 +87,7 @@ pub fn target_answer(w: &[u16; WORDS], r: u16, j: u16) -> u16
 }
 
 pub fn set_target_answer(w: &mut [u16; WORDS], r: u16, j: u16, x: u16)
-    ensures { w.new ≡ tables.«target_answer_stored» w.old r j x }
+    ensures { w.new ≡ tables.target_answer_stored w.old r j x }
 {
     if j < 8 {
         put(w, LEVELS, ROW * (r as usize) + (j as usize), x);

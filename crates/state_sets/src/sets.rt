@@ -29,25 +29,25 @@ const OWN_EDGES: u16 = 1089;
 const MOST_BUNDLES: u16 = 1097;
 
 pub fn set_start(w: &[u16; WORDS], r: u16) -> BundleNumber
-    ensures { result.0 ≡ sections.word w.now sections.«set_starts» r }
+    ensures { result.0 ≡ sections.word w.now sections.set_starts r }
 {
     BundleNumber(get(w, SET_STARTS, r as usize))
 }
 
 pub fn put_set_start(w: &mut [u16; WORDS], r: u16, start: BundleNumber)
-    ensures { w.new ≡ sections.stored w.old sections.«set_starts» r start.0 }
+    ensures { w.new ≡ sections.stored w.old sections.set_starts r start.0 }
 {
     put(w, SET_STARTS, r as usize, start.0);
 }
 
 pub fn set_length(w: &[u16; WORDS], r: u16) -> u16
-    ensures { result ≡ sections.word w.now sections.«set_lengths» r }
+    ensures { result ≡ sections.word w.now sections.set_lengths r }
 {
     get(w, SET_LENGTHS, r as usize)
 }
 
 pub fn put_set_length(w: &mut [u16; WORDS], r: u16, n: u16)
-    ensures { w.new ≡ sections.stored w.old sections.«set_lengths» r n }
+    ensures { w.new ≡ sections.stored w.old sections.set_lengths r n }
 {
     put(w, SET_LENGTHS, r as usize, n);
 }
@@ -64,7 +64,7 @@ pub fn slot(r: u16) -> BundleNumber
 
 // The bundle of case j's own edge.
 pub fn own_edge(j: u16) -> BundleNumber
-    ensures { result.0 ≡ tables.«own_edge» j }
+    ensures { result.0 ≡ tables.own_edge j }
 {
     if j < 8 {
         return BundleNumber(OWN_EDGES + j);
@@ -74,7 +74,7 @@ pub fn own_edge(j: u16) -> BundleNumber
 
 // Bundle i of those from `start` on.
 pub fn bundle_at(start: BundleNumber, i: u16) -> BundleNumber
-    ensures { result.0 ≡ tables.«bundle_at» start.0 i }
+    ensures { result.0 ≡ tables.bundle_at start.0 i }
 {
     if start.0 < MOST_BUNDLES {
         if i < 33 {
@@ -96,51 +96,51 @@ pub fn swap_sets(w: &mut [u16; WORDS], a: u16, b: u16)
 
 fn word(w: &[u16; WORDS], b: BundleNumber, i: usize) -> u16
     requires { i ≤ 65600 }
-    ensures { result ≡ rows.«bundle_word» w.now b.0 i }
+    ensures { result ≡ rows.bundle_word w.now b.0 i }
 {
     get(w, BUNDLES, ROW * (b.0 as usize) + i)
 }
 
 fn set_word(w: &mut [u16; WORDS], b: BundleNumber, i: usize, x: u16)
     requires { i ≤ 65600 }
-    ensures { w.new ≡ sections.stored w.old sections.bundles (rows.«bundle_word_at» b.0 i) x }
+    ensures { w.new ≡ sections.stored w.old sections.bundles (rows.bundle_word_at b.0 i) x }
 {
     put(w, BUNDLES, ROW * (b.0 as usize) + i, x);
 }
 
 pub fn target(w: &[u16; WORDS], b: BundleNumber) -> u16
-    ensures { result ≡ rows.«bundle_target» w.now b.0 }
+    ensures { result ≡ rows.bundle_target w.now b.0 }
 {
     word(w, b, 0)
 }
 
 pub fn accumulated_count(w: &[u16; WORDS], b: BundleNumber) -> IncomingEdgeCount
-    ensures { (result.0 ≡ rows.«bundle_count» w.now b.0) × (result.0 ≤ 65535) }
+    ensures { (result.0 ≡ rows.bundle_count w.now b.0) × (result.0 ≤ 65535) }
 {
     IncomingEdgeCount::of_word(word(w, b, 1))
 }
 
 pub fn set_accumulated_count(w: &mut [u16; WORDS], b: BundleNumber, n: IncomingEdgeCount)
-    ensures { w.new ≡ sections.stored w.old sections.bundles (rows.«bundle_count_at» b.0)
-        (totals.«edges_word» n.0) }
+    ensures { w.new ≡ sections.stored w.old sections.bundles (rows.bundle_count_at b.0)
+        (totals.edges_word n.0) }
 {
     set_word(w, b, 1, n.to_word());
 }
 
 pub fn condition(w: &[u16; WORDS], b: BundleNumber) -> u16
-    ensures { result ≡ rows.«bundle_condition» w.now b.0 }
+    ensures { result ≡ rows.bundle_condition w.now b.0 }
 {
     word(w, b, 2)
 }
 
 pub fn set_condition(w: &mut [u16; WORDS], b: BundleNumber, c: u16)
-    ensures { w.new ≡ sections.stored w.old sections.bundles (rows.«bundle_condition_at» b.0) c }
+    ensures { w.new ≡ sections.stored w.old sections.bundles (rows.bundle_condition_at b.0) c }
 {
     set_word(w, b, 2, c);
 }
 
 pub fn target_input(w: &[u16; WORDS], b: BundleNumber, k: u16) -> u16
-    ensures { result ≡ tables.«input_word» w.now b.0 k }
+    ensures { result ≡ tables.input_word w.now b.0 k }
 {
     if k < 4 {
         return word(w, b, 3 + (k as usize));
@@ -149,7 +149,7 @@ pub fn target_input(w: &[u16; WORDS], b: BundleNumber, k: u16) -> u16
 }
 
 pub fn set_target_input(w: &mut [u16; WORDS], b: BundleNumber, k: u16, v: u16)
-    ensures { w.new ≡ tables.«input_stored» w.old b.0 k v }
+    ensures { w.new ≡ tables.input_stored w.old b.0 k v }
 {
     if k < 4 {
         set_word(w, b, 3 + (k as usize), v);
@@ -159,8 +159,8 @@ pub fn set_target_input(w: &mut [u16; WORDS], b: BundleNumber, k: u16, v: u16)
 
 // Target, count and condition; the inputs are set one by one.
 pub fn set_bundle(w: &mut [u16; WORDS], b: BundleNumber, t: u16, n: IncomingEdgeCount, c: u16)
-    ensures { w.new ≡ sections.«stored_all» w.old sections.bundles (rows.«bundle_row_at» b.0)
-        (t ∷ totals.«edges_word» n.0 ∷ c ∷ []) }
+    ensures { w.new ≡ sections.stored_all w.old sections.bundles (rows.bundle_row_at b.0)
+        (t ∷ totals.edges_word n.0 ∷ c ∷ []) }
 {
     let xs = [t, n.to_word(), c];
     put_all(w, BUNDLES, ROW * (b.0 as usize), &xs);
@@ -168,15 +168,15 @@ pub fn set_bundle(w: &mut [u16; WORDS], b: BundleNumber, t: u16, n: IncomingEdge
 
 // All four of its inputs.
 pub fn set_target_inputs(w: &mut [u16; WORDS], b: BundleNumber, vs: &[u16; 4])
-    ensures { w.new ≡ sections.«stored_all» w.old sections.bundles (rows.«bundle_input_at» b.0 0)
+    ensures { w.new ≡ sections.stored_all w.old sections.bundles (rows.bundle_input_at b.0 0)
         vs.now }
 {
     put_all(w, BUNDLES, ROW * (b.0 as usize) + 3, vs);
 }
 
 pub fn copy_bundle(w: &mut [u16; WORDS], to: BundleNumber, from: BundleNumber)
-    ensures { w.new ≡ sections.«stored_all» w.old sections.bundles (rows.«bundle_row_at» to.0)
-        (tables.«bundle_words» w.old from.0) }
+    ensures { w.new ≡ sections.stored_all w.old sections.bundles (rows.bundle_row_at to.0)
+        (tables.bundle_words w.old from.0) }
 {
     let xs = [
         word(w, from, 0),
@@ -192,7 +192,7 @@ pub fn copy_bundle(w: &mut [u16; WORDS], to: BundleNumber, from: BundleNumber)
 
 // The bundle to a target among n from `start` on.
 pub fn find_by_target(w: &[u16; WORDS], start: BundleNumber, n: u16, t: u16) -> BundleNumber
-    ensures { result.0 ≡ tables.«find_by» w.now start.0 t n 0 }
+    ensures { result.0 ≡ tables.find_by w.now start.0 t n 0 }
 {
     let mut i: u16 = 0;
     while i < n {
@@ -207,7 +207,7 @@ pub fn find_by_target(w: &[u16; WORDS], start: BundleNumber, n: u16, t: u16) -> 
 
 // Bundle b leaves its set by swap: the last takes its place.
 fn swap_remove(w: &mut [u16; WORDS], r: u16, b: BundleNumber)
-    ensures { w.new ≡ tables.«swap_removed» w.old r b.0 }
+    ensures { w.new ≡ tables.swap_removed w.old r b.0 }
 {
     let n = set_length(w, r);
     if n == 0 {
@@ -220,7 +220,7 @@ fn swap_remove(w: &mut [u16; WORDS], r: u16, b: BundleNumber)
 
 // The bundle to a target leaves region r's set. It is bundle b: `find_by_target` found it before.
 pub fn split_out_target(w: &mut [u16; WORDS], r: u16, b: BundleNumber)
-    ensures { w.new ≡ tables.«swap_removed» w.old r b.0 }
+    ensures { w.new ≡ tables.swap_removed w.old r b.0 }
 {
     swap_remove(w, r, b);
 }
@@ -240,7 +240,7 @@ fn shift(w: &mut [u16; WORDS], start: BundleNumber, i: u16, n: u16)
 
 // Bundle i leaves its set, the others keep their order.
 pub fn shift_remove(w: &mut [u16; WORDS], r: u16, i: u16)
-    ensures { w.new ≡ tables.«shift_removed» w.old r i }
+    ensures { w.new ≡ tables.shift_removed w.old r i }
 {
     let n = set_length(w, r);
     if n == 0 {

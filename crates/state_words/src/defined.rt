@@ -67,14 +67,14 @@ pub fn set_head(w: &mut [u16; WORDS], i: usize, x: u16)
 
 // Type k of a Return's values.
 pub fn returned_type(w: &[u16; WORDS], k: u16) -> u16
-    ensures { result ≡ sections.word w.now sections.head (rows.«types_at» + k) }
+    ensures { result ≡ sections.word w.now sections.head (rows.types_at + k) }
 {
     get(w, HEAD, RETURNED + 1 + (k as usize))
 }
 
 // Before the first claim: so many regions and nodes, no conditions and no outputs, cell 0, which is none, no attempts, and no note.
 pub fn set_first_totals(w: &mut [u16; WORDS], regions: u16, nodes: u16)
-    ensures { w.new ≡ sections.«stored_all» w.old sections.head rows.«regions_at»
+    ensures { w.new ≡ sections.stored_all w.old sections.head rows.regions_at
         (regions ∷ nodes ∷ 0 ∷ 0 ∷ 1 ∷ 0 ∷ 0 ∷ []) }
 {
     let xs = [regions, nodes, 0, 0, 1, 0, 0];
@@ -95,13 +95,13 @@ fn define(w: &mut [u16; WORDS], i: usize, limit: u16) -> Defined
 }
 
 pub fn define_node(w: &mut [u16; WORDS]) -> Defined
-    ensures { totals.Defines rows.«nodes_at» limits.«most_nodes» w.old w.new result }
+    ensures { totals.Defines rows.nodes_at limits.most_nodes w.old w.new result }
 {
     define(w, NODES, MOST_NODES)
 }
 
 pub fn define_region(w: &mut [u16; WORDS]) -> Defined
-    ensures { totals.Defines rows.«regions_at» limits.«most_regions» w.old w.new result }
+    ensures { totals.Defines rows.regions_at limits.most_regions w.old w.new result }
 {
     define(w, REGIONS, MOST_REGIONS)
 }
@@ -118,7 +118,7 @@ pub fn count_attempt(w: &mut [u16; WORDS])
 
 // The note that a marked value was met whose second look-up would change it.
 pub fn note_twice(w: &mut [u16; WORDS])
-    ensures { w.new ≡ sections.stored w.old sections.head rows.«twice_at» 1 }
+    ensures { w.new ≡ sections.stored w.old sections.head rows.twice_at 1 }
 {
     set_head(w, TWICE, 1);
 }

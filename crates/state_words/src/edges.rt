@@ -33,7 +33,7 @@ impl IncomingEdgeCount {
 
     // As the state keeps it, in a word of 16 bits: a count beyond is the largest word.
     pub fn to_word(self) -> u16
-        ensures { result ≡ totals.«edges_word» self.0 }
+        ensures { result ≡ totals.edges_word self.0 }
     {
         if self.0 < 65535 {
             return self.0 as u16;

@@ -97,7 +97,7 @@ pub const BUNDLES: Section = Section {
 
 pub fn get(w: &[u16; WORDS], section: Section, i: usize) -> u16
     requires { section.from + section.words ≤ sections.used }
-    ensures { result ≡ sections.«read_at» section.from section.words w.now i }
+    ensures { result ≡ sections.read_at section.from section.words w.now i }
 {
     tells_length(w);
     let from = section.from;
@@ -109,7 +109,7 @@ pub fn get(w: &[u16; WORDS], section: Section, i: usize) -> u16
 
 pub fn put(w: &mut [u16; WORDS], section: Section, i: usize, x: u16)
     requires { section.from + section.words ≤ sections.used }
-    ensures { w.new ≡ sections.«stored_at» section.from section.words w.old i x }
+    ensures { w.new ≡ sections.stored_at section.from section.words w.old i x }
 {
     tells_length(w);
     let from = section.from;
@@ -122,7 +122,7 @@ pub fn put(w: &mut [u16; WORDS], section: Section, i: usize, x: u16)
 // Words from i on.
 pub fn put_all(w: &mut [u16; WORDS], section: Section, i: usize, xs: &[u16])
     requires { (section.from + section.words ≤ sections.used) × (i ≤ 1000000) × (length xs.now ≤ 8) }
-    ensures { w.new ≡ sections.«stored_all_at» section.from section.words w.old i xs.now }
+    ensures { w.new ≡ sections.stored_all_at section.from section.words w.old i xs.now }
 {
     let mut j: usize = 0;
     while j < xs.len() {

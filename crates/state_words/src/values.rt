@@ -26,7 +26,7 @@ const INPUTS: u16 = 4 * MOST_REGIONS;
 pub const NOTHING: u16 = 4096;
 
 pub fn constant(i: u16) -> u16
-    ensures { result ≡ words.«const_word» i }
+    ensures { result ≡ words.const_word i }
 {
     if i < 64 {
         return i;
@@ -35,7 +35,7 @@ pub fn constant(i: u16) -> u16
 }
 
 pub fn boolean(b: bool) -> u16
-    ensures { result ≡ words.«Bool-word» b }
+    ensures { result ≡ words.bool_word b }
 {
     if b {
         return TRUE;
@@ -44,7 +44,7 @@ pub fn boolean(b: bool) -> u16
 }
 
 pub fn undef(ty: u16) -> u16
-    ensures { result ≡ words.«undef_word» ty }
+    ensures { result ≡ words.undef_word ty }
 {
     if ty < 256 {
         return UNDEF + ty;
@@ -53,7 +53,7 @@ pub fn undef(ty: u16) -> u16
 }
 
 pub fn output(o: u16) -> u16
-    ensures { result ≡ words.«output_word» o }
+    ensures { result ≡ words.output_word o }
 {
     if o < MOST_OUTPUTS {
         return OUTPUT + o;
@@ -64,7 +64,7 @@ pub fn output(o: u16) -> u16
 // Four from `base` on for each region.
 fn of_region(base: u16, r: u16, k: u16) -> u16
     requires { base ≤ 2048 }
-    ensures { result ≡ words.«region_word» base r k }
+    ensures { result ≡ words.region_word base r k }
 {
     if r < MOST_REGIONS {
         if k < 4 {
@@ -75,20 +75,20 @@ fn of_region(base: u16, r: u16, k: u16) -> u16
 }
 
 pub fn input(r: u16, k: u16) -> u16
-    ensures { result ≡ words.«region_word» 1024 r k }
+    ensures { result ≡ words.region_word 1024 r k }
 {
     of_region(INPUT, r, k)
 }
 
 // A marked input: renumbered, and never rewritten again.
 pub fn held(r: u16, k: u16) -> u16
-    ensures { result ≡ words.«region_word» 1536 r k }
+    ensures { result ≡ words.region_word 1536 r k }
 {
     of_region(HELD, r, k)
 }
 
 pub fn instr(r: u16, k: u16) -> u16
-    ensures { result ≡ words.«instr_word» r k }
+    ensures { result ≡ words.instr_word r k }
 {
     if r < 32 {
         if k < 64 {
@@ -100,7 +100,7 @@ pub fn instr(r: u16, k: u16) -> u16
 
 // The word of a record's value.
 pub fn value_word(v: Value) -> u16
-    ensures { result ≡ words.«value_word» v }
+    ensures { result ≡ words.value_word v }
 {
     match v {
         Value::Const(i) => constant(i),
@@ -133,7 +133,7 @@ pub fn is_const(v: u16) -> bool
 }
 
 pub fn is_input(v: u16) -> bool
-    ensures { result ≡ words.«is_input» v }
+    ensures { result ≡ words.is_input v }
 {
     if v < INPUT {
         return false;
@@ -142,7 +142,7 @@ pub fn is_input(v: u16) -> bool
 }
 
 pub fn is_held(v: u16) -> bool
-    ensures { result ≡ words.«is_held_lem» v }
+    ensures { result ≡ words.is_held v }
 {
     if v < HELD {
         return false;
@@ -152,19 +152,19 @@ pub fn is_held(v: u16) -> bool
 
 // The region and the index of an input, marked or not.
 pub fn input_region(v: u16) -> u16
-    ensures { result ≡ words.«input_region» v }
+    ensures { result ≡ words.input_region v }
 {
     v % INPUTS / 4
 }
 
 pub fn input_index(v: u16) -> u16
-    ensures { result ≡ words.«input_index» v }
+    ensures { result ≡ words.input_index v }
 {
     v % 4
 }
 
 pub fn parts_of(v: u16) -> Parts
-    ensures { result ≡ words.«parts_of» v }
+    ensures { result ≡ words.parts_of v }
 {
     if v < FALSE {
         return shown(0, 0, v);

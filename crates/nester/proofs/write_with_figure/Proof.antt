@@ -31,8 +31,8 @@ returns_2 c =
     let at-if = at-write-or-refuse.before.before in
     let at-figure = at-if.before in
     let at-children = at-figure.before in
-    let at_entry_lem = at-children.before in
-    within_figure _ _ at_entry_lem.entry.ensures
+    let at_entry = at-children.before in
+    within_figure _ _ at_entry.entry.ensures
     at-children.children.ensures at-figure.figure.ensures
     at-if.if1.false at-write-or-refuse.write-or-refuse.ensures
 

@@ -65,12 +65,12 @@ returns c =
     let at-put-labeled3 = at-put-text.before.before.before.before.before in
     let at-test-cost = at-put-labeled3.before in
     let at-put-labeled2 = at-test-cost.before.before.before.before.before in
-    let at_entry_lem = at-put-labeled2.before in
-    let at-put-labeled = at_entry_lem.before.before.before.before.before in
+    let at_entry = at-put-labeled2.before in
+    let at-put-labeled = at_entry.before.before.before.before.before in
     let at-region-count = at-put-labeled.before in
     λ g s.
     of_text (ap (labeled "record regions ") (at-region-count.region_count.ensures g s)) at-put-labeled.put-labeled.ensures
-    ▸ of_text (ap (labeled " entry ") (at_entry_lem.entry.ensures g s)) at-put-labeled2.put-labeled2.ensures
+    ▸ of_text (ap (labeled " entry ") (at_entry.entry.ensures g s)) at-put-labeled2.put-labeled2.ensures
     ▸ of_text (ap (labeled " test ") (at-test-cost.test_cost.ensures g s)) at-put-labeled3.put-labeled3.ensures
     ▸ at-put-text.put-text.ensures
     ▸ at-put-numbers.put-numbers.ensures g s

@@ -21,10 +21,10 @@ same_length c = search rules
 returns : tie.Need-returns
 returns c =
     let at-put-piece = c.before.before in
-    let at_entry_lem = at-put-piece.before in
-    let at-put-unclaimed = at_entry_lem.before.before.before.before in
+    let at_entry = at-put-piece.before in
+    let at-put-unclaimed = at_entry.before.before.before.before in
     let at-put-sets = at-put-unclaimed.before.before.before.before in
-    leftover_put _ at_entry_lem.entry.ensures
+    leftover_put _ at_entry.entry.ensures
     at-put-sets.put-sets.ensures
     at-put-unclaimed.put-unclaimed.ensures at-put-piece.put-piece.ensures
 

@@ -32,8 +32,8 @@ returns_2 c =
     let at-if = at-put-set.before.before in
     let at-region-state = at-if.before in
     let at-if-2 = at-region-state.before in
-    let at_entry_lem = at-if-2.before in
-    ready_set_put _ _ at_entry_lem.entry.ensures
+    let at_entry = at-if-2.before in
+    ready_set_put _ _ at_entry.entry.ensures
     at-if-2.if1.false at-region-state.region-state.ensures
     at-if.if2.true at-put-set.put-set2.ensures
 

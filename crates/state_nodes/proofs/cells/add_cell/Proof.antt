@@ -35,7 +35,7 @@ returns c =
     let at_words = at-put-all.before.before.before in
     let at-if = at_words.before in
     added at-if.before.head.ensures at-if.if1.true
-    (rw (at-put-all.put_all_lem.ensures, at_words.cell_words.ensures) at c.set-head.ensures)
+    (rw (at-put-all.put_all.ensures, at_words.cell_words.ensures) at c.set-head.ensures)
 
 returns_2 : tie.Need-returns-2
 returns_2 c = no_room (omega (arith, c.before.head.ensures)) refl refl

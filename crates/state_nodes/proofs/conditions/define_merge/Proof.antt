@@ -41,7 +41,7 @@ returns c =
     let at-if = at-put.before.before in
     let at_head = at-if.before in
     merge_defined at_head.head.ensures at-if.if1.true refl
-    (rw (one_and_run _ _ _ _ _ _ at-put.put.ensures at-put-all.put_all_lem.ensures) at c.set-head.ensures)
+    (rw (one_and_run _ _ _ _ _ _ at-put.put.ensures at-put-all.put_all.ensures) at c.set-head.ensures)
 
 returns_2 : tie.Need-returns-2
 unfolding stored_all_at

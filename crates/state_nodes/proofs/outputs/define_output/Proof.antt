@@ -47,7 +47,7 @@ returns c =
     output_defined at-output-count.output-count.ensures
     at-if.if1.true
     (rw (two_and_run _ _ _ _ _ _ _ at-put-2.put.ensures
-    at-put.put2.ensures at-put-all.put_all_lem.ensures) at c.set-head.ensures)
+    at-put.put2.ensures at-put-all.put_all.ensures) at c.set-head.ensures)
 
 returns_2 : tie.Need-returns-2
 unfolding stored_all_at

@@ -40,7 +40,7 @@ returns_3 c =
     let at-reach = at-put.before.before in
     let at-if = at-reach.before.before in
     let at-rewrite-kind = at-if.before in
-    (rw (at-put.put.ensures, at-reach.reach.ensures) at c.put_all_lem.ensures)
+    (rw (at-put.put.ensures, at-reach.reach.ensures) at c.put_all.ensures)
     ∙ picked _ _ (is_equal at-if.if2.false
     at-rewrite-kind.rewrite_kind.ensures)
     ∙ picked _ _ (is_below at-rewrite-kind.before.before.if1.false refl)

@@ -53,7 +53,7 @@ returns c =
       ← at-word-3.word5.ensures,
       ← at-word-2.word6.ensures,
       ← at-word.word7.ensures,
-    ) c.put_all_lem.ensures
+    ) c.put_all.ensures
 
 pub copy-bundle-spec : {M : Type 1} → statement M
 copy-bundle-spec =

@@ -18,7 +18,7 @@ put-all-requires : tie.Need-put-all-requires
 put-all-requires c κs = search rules
 
 returns : tie.Need-returns
-returns c = rw c.before.before.before.before.to_word.ensures at c.put_all_lem.ensures
+returns c = rw c.before.before.before.before.to_word.ensures at c.put_all.ensures
 
 pub set-bundle-spec : {M : Type 1} → statement M
 set-bundle-spec =
