@@ -1,0 +1,14 @@
+use Rattle.state_regions.specs.RegionTables.{target_answer_stored}
+use mathlib.Core.Path.{◌∙◌}
+use Rattle.meaning.specs.facts.Tests.{picked, passed_over}
+use borrow.Author.Tests.{lt-ltb, le-ltb}
+use borrow.Author.Rules.{rules}
+use Rattle.state_regions.proofs.regions.set_target_answer.Goals as goal
+
+pub returns-then-j-lt8 : goal.returns-then-j-lt8
+unfolding target_answer_stored
+returns-then-j-lt8 c = c.put.ensures ∙ picked _ _ (lt-ltb _ _ c.if-j-lt8.true)
+
+pub returns : goal.returns
+unfolding target_answer_stored
+returns c = passed_over _ _ (le-ltb _ _ c.if-j-lt8.false)
