@@ -9,17 +9,17 @@ use Rattle.cfg_lookups.specs.laws.paths.LookUpsLaws.{turn_none, turn_renumbers, 
 use Rattle.cfg_lookups.specs.laws.paths.LookUpsLaws.{turn_stays, turns_over}
 use Rattle.nesting.specs.Nesting.{most_regions}
 use Rattle.cfg_lookups.proofs.look_up.look_up.Goals as goal
+use Rattle.cfg_lookups.proofs.look_up.look_up.Goals.{else-loop-left-test, then-loop-left-test+else-not-is_input+then-kind-eq-NONE, then-loop-left-test+else-not-is_input+else-kind-eq-NONE+then-renumbers}
 
 pub returns-then-not-is_input : goal.returns-then-not-is_input
 returns-then-not-is_input c = c.stays.ensures ∙ turn_stays _ _ _ 0 0 0 0 c.loop-left-test.true
-    c.loop-left.invariant (sym c.is_input.ensures ∙ not-true _ c.if-not-is_input.true)
+    c.loop-left.invariant (sym c.is_input.ensures ∙ c.if-not-is_input.true)
 
 pub loop-left-preserved : goal.loop-left-preserved
 loop-left-preserved c =
     turn_on _ _ _ _ _ _ _ c.loop-left-test.true
     c.loop-left.invariant
-    (sym c.is_input.ensures
-    ∙ not-false _ c.if-not-is_input.false)
+    (sym c.is_input.ensures ∙ c.if-not-is_input.false)
     c.input_region-r.ensures
     c.rewrite_kind-kind.ensures c.if-kind-eq-NONE.false
     c.input_index.ensures c.rewrite_value-x.ensures
@@ -28,13 +28,15 @@ loop-left-preserved c =
 pub returns : goal.returns
 returns c =
     let left = c.loop-left.invariant in
-    c.plain.ensures
-    ∙ ⊎_elim (λ y. rw y.1 (turns_over _ _ _ y.0.left left))
-    (⊎_elim
-    (λ y. rw y.6
-    (turn_none _ _ _ _ _ 0 0 y.0.taken left (sym y.1.ensures ∙ not-false _ y.2.left) y.3.ensures y.4.ensures
-    y.5.taken))
-    (λ y. rw y.10
-    (turn_renumbers _ _ _ _ _ _ _ y.0.taken left (sym y.1.ensures ∙ not-false _ y.2.left) y.3.ensures y.4.ensures
-    y.5.left y.6.ensures y.7.ensures (sym y.8.ensures ∙ y.9.taken))))
-    c.loop-left-test.branch
+    c.plain.ensures ∙ elim c.loop-left-test.branch [
+      else-loop-left-test w ↦ rw w.x-is (turns_over _ _ _ w.loop-left-test.false left)
+    | then-loop-left-test+else-not-is_input+then-kind-eq-NONE w ↦
+      rw w.x-is
+      (turn_none _ _ _ _ _ 0 0 w.loop-left-test.true left (sym w.is_input.ensures ∙ w.if-not-is_input.false) w.input_region-r.ensures
+      w.rewrite_kind-kind.ensures w.if-kind-eq-NONE.true)
+    | then-loop-left-test+else-not-is_input+else-kind-eq-NONE+then-renumbers w ↦
+      rw w.x-is
+      (turn_renumbers _ _ _ _ _ _ _ w.loop-left-test.true left (sym w.is_input.ensures ∙ w.if-not-is_input.false)
+      w.input_region-r.ensures w.rewrite_kind-kind.ensures w.if-kind-eq-NONE.false w.input_index.ensures w.rewrite_value-x.ensures
+      (sym w.renumbers.ensures ∙ w.if-renumbers.true))
+    ]
