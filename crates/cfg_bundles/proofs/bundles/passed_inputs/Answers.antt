@@ -1,0 +1,7 @@
+use mathlib.Core.Path.{◌∙◌}
+use Rattle.cfg_bundles.specs.laws.paths.Paths.{listed_is}
+use borrow.Author.Rules.{rules}
+use Rattle.cfg_bundles.proofs.bundles.passed_inputs.Goals as goal
+
+pub returns : goal.returns
+returns c g s = c.listed_inputs.ensures ∙ listed_is _ _ (c.passed_list.ensures g s)
