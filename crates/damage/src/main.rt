@@ -6,20 +6,18 @@ mod answers;
 mod changes;
 
 use changes::{bits, lengths};
-use libc::{STDIN_FILENO, STDOUT_FILENO};
+use std::io;
 use store::WORDS;
+use streams::read_input;
 use vectors::{TEXT, Tally};
 
-fn print(t: Tally, what: &[u8]) {
-    io::print_decimal(STDOUT_FILENO, t.agree as u64);
-    io::write_all(STDOUT_FILENO, what);
-    io::print_decimal(STDOUT_FILENO, t.differ as u64);
-    io::write_all(STDOUT_FILENO, b" differ\n");
+fn print(rt: &impl Print, t: Tally, what: &str) -> io::Result<()> {
+    println!(rt; "{} {what} agree, {} differ", t.agree, t.differ)
 }
 
 // The list: the block, the answers to its changes and to those with the check made right, the long store, the answers to
-// its lengths; two bytes for each answer.
-fn main() {
+// its lengths; two bytes for each answer. What a list that ends early lacks is zeros.
+fn main(rt: HostRuntime) -> io::Result<()> {
     let mut block = [0u8; 512];
     let mut changed = [0u8; 8192];
     let mut mended = [0u8; 8096];
@@ -27,21 +25,25 @@ fn main() {
     let mut cut = [0u8; 17410];
     let mut words = [0u16; WORDS];
     let mut out = [0u8; TEXT];
-    io::read_full(STDIN_FILENO, &mut block);
-    io::read_full(STDIN_FILENO, &mut changed);
-    io::read_full(STDIN_FILENO, &mut mended);
-    io::read_full(STDIN_FILENO, &mut long);
-    io::read_full(STDIN_FILENO, &mut cut);
+    let mut list = rt.stdin();
+    read_input(&mut list, &mut block);
+    read_input(&mut list, &mut changed);
+    read_input(&mut list, &mut mended);
+    read_input(&mut list, &mut long);
+    read_input(&mut list, &mut cut);
     print(
+        &rt,
         bits(0, 4096, false, block, &changed, &mut words, &mut out),
-        b" bits agree, ",
-    );
+        "bits",
+    )?;
     print(
+        &rt,
         bits(16, 4064, true, block, &mended, &mut words, &mut out),
-        b" bits with a right check agree, ",
-    );
+        "bits with a right check",
+    )?;
     print(
+        &rt,
         lengths(&long, &cut, &mut words, &mut out),
-        b" lengths agree, ",
-    );
+        "lengths",
+    )
 }

@@ -5,9 +5,11 @@ ghost use Rattle.std.specs.Prelude.{◌≡◌, ◌≤◌, [], ◌∷◌, length,
 ghost use Rattle.vectors.specs.Reading.{Reads};
 ghost use Rattle.replay.specs.Agrees.{of_sheet, is_shown, agrees};
 
-use libc::{STDIN_FILENO, STDOUT_FILENO};
 use replay_sheets::sheets::{PRINTED, is_nested};
+use std::io;
+use std::io::Read;
 use store::WORDS;
+use streams::read_input;
 use text::Written;
 use vectors::{STORE, TEXT, Tally, VectorReader};
 
@@ -105,8 +107,8 @@ fn fed_all(
 }
 
 // The whole list, in at most so many chunks.
-fn replayed(turns: u32) -> Tally {
-    let mut chunk = io::large_buffer();
+fn replayed<R: Read>(list: &mut R, turns: u32) -> Tally {
+    let mut chunk = [0u8; 65536];
     let mut text = [0u8; TEXT];
     let mut bytes = [0u8; STORE];
     let mut words = [0u16; WORDS];
@@ -114,7 +116,7 @@ fn replayed(turns: u32) -> Tally {
     let mut reader = vectors::start();
     let mut left = turns;
     while left > 0 {
-        let n = io::read_full(STDIN_FILENO, &mut chunk);
+        let n = read_input(list, &mut chunk).size;
         if n == 0 {
             let tally = reader.tally;
             return tally;
@@ -133,10 +135,7 @@ fn replayed(turns: u32) -> Tally {
     tally
 }
 
-fn main() {
-    let tally = replayed(1024);
-    io::print_decimal(STDOUT_FILENO, tally.agree as u64);
-    io::write_all(STDOUT_FILENO, b" agree, ");
-    io::print_decimal(STDOUT_FILENO, tally.differ as u64);
-    io::write_all(STDOUT_FILENO, b" differ\n");
+fn main(rt: HostRuntime) -> io::Result<()> {
+    let tally = replayed(&mut rt.stdin(), 1024);
+    println!(rt; "{} agree, {} differ", tally.agree, tally.differ)
 }

@@ -1,12 +1,12 @@
 // Standard input to its end, and the text that is put out: for the programs alone, which say on standard error what failed.
 #![tactic(auto)]
 
-ghost use Rattle.std.specs.Prelude.{◌<◌, ◌≡◌, true, length};
+ghost use Rattle.std.specs.Prelude.{◌<◌, ◌≡◌, true, false, length, take};
+ghost use Rattle.std.specs.Io.KnownBytes.{Consumes, IsAtEnd};
 ghost use Rattle.text.specs.declared.Written.TheVariants.{Full};
-ghost use Rattle.io.specs.Counts.{IsPrefixLen};
-ghost use Rattle.streams.specs.Sizes.{size_within};
+ghost use Rattle.streams.specs.Sizes.{IsPrefixLen, size_within};
 
-use libc::STDIN_FILENO;
+use std::io::Read;
 use text::Written;
 
 // How many bytes were read, and whether a read failed.
@@ -17,20 +17,22 @@ pub struct Input {
 }
 
 // Until the input ends, or the buffer is full.
-pub fn read_input(buffer: &mut [u8]) -> Input
+// Of a reader whose bytes are known: the buffer's front has those that were read, and fewer than it has room for are all of them,
+// if no read failed.
+pub fn read_input<R: Read>(reader: &mut R, buffer: &mut [u8]) -> Input
     ensures prefix_len { IsPrefixLen result.size buffer.new }
     ensures size_in_bounds { result.failed ≡ true → result.size < length buffer.new }
+    ensures bytes { Consumes (R.remaining reader.old) (R.remaining reader.new) (take result.size buffer.new) }
+    ensures whole { result.failed ≡ false → result.size < length buffer.new → IsAtEnd (R.remaining reader.new) }
 {
     let mut at: usize = 0;
     while at < buffer.len() {
-        let got = libc::read(STDIN_FILENO, &mut buffer[at..]);
-        if got < 0 {
+        let Ok(more) = reader.read(&mut buffer[at..]) else {
             return Input {
                 size: at,
                 failed: true,
             };
-        }
-        let more = io::count(got, &buffer[at..]);
+        };
         if more == 0 {
             return Input {
                 size: at,

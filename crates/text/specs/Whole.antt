@@ -1,5 +1,5 @@
 -- A whole text from the buffer's beginning: what is answered, and what the buffer holds then.
-use Rattle.std.specs.Prelude.{◌≡◌, List, ◌++◌, ℕ, ◌+◌, ◌≤◌, length, take, drop, leb}
+use Rattle.std.specs.Prelude.{◌≡◌, List, ◌++◌, ℕ, ◌≤◌, length, take, drop, leb}
 use Rattle.text.specs.declared.Written.{Written}
 use Rattle.text.specs.declared.Written.TheVariants.{Bytes, Full}
 use Rattle.meaning.specs.Lists.{pick}

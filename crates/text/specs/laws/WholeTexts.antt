@@ -9,7 +9,7 @@ use Rattle.text.specs.declared.Written.TheVariants.{Bytes, Full}
 use Rattle.text.specs.Buffer.{buffer, puts, Wrote}
 use Rattle.meaning.specs.Lists.{pick}
 use Rattle.meaning.specs.facts.Tests.{clash}
-use Rattle.text.specs.Whole.{written_to, over, Whole, InFront}
+use Rattle.text.specs.Whole.{written_to, Whole, InFront}
 
 beyond : (t b : List ℕ) (at : ℕ) → length b < at → puts (buffer b at) t ≡ buffer b at
 unfolding puts
