@@ -21,7 +21,6 @@ use Rattle.state_lists.specs.laws.CellByCellLaws.{before_below, named_below, app
 use Rattle.figure.specs.laws.Nodes.{figure_join, figure_blocks}
 use Rattle.figure.specs.Figured.{capped, Figured, CellFigured, DearestFigured, BlocksFigured, ToCome, SummedTo, CasesToCome}
 use Rattle.figure.specs.Figured.{DearestTo}
-use Rattle.state_words.specs.Values.{parts}
 
 -- ---- Sums and turns over what is held at the largest number.
 pub capped_times : (m n c : ℕ) → capped (m * (capped n + c)) ≡ capped (m * (n + c))
