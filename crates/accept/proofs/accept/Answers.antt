@@ -3,7 +3,6 @@ use mathlib.Core.Path.{sym, ap, ◌∙◌}
 use native.Mathlib.Omega.{arith}
 use Rattle.store.specs.Loaded.{answered}
 use Rattle.accept.specs.laws.AcceptSteps.{store_refused, record_judged}
-use borrow.Author.Rules.{rules}
 use Rattle.accept.proofs.accept.Goals as goal
 
 pub returns-in-Refused : goal.returns-in-Refused

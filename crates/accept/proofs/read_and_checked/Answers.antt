@@ -1,6 +1,5 @@
 -- Reading is refused, or the references decide.
 use Rattle.accept.specs.laws.Judging.{unread, by_references}
-use borrow.Author.Rules.{rules}
 use Rattle.accept.proofs.read_and_checked.Goals as goal
 
 pub returns-in-Refused : goal.returns-in-Refused

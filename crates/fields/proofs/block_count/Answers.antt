@@ -1,4 +1,3 @@
-use borrow.Author.Rules.{rules}
 use mathlib.Core.Path.{◌∙◌}
 use Rattle.fields.specs.laws.Regions.{block_count_is}
 use Rattle.fields.proofs.block_count.Goals as goal

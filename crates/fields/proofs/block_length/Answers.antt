@@ -1,4 +1,3 @@
-use borrow.Author.Rules.{rules}
 use mathlib.Core.Path.{◌∙◌}
 use Rattle.fields.specs.laws.Instructions.{block_length}
 use Rattle.fields.proofs.block_length.Goals as goal

@@ -1,9 +1,5 @@
-use mathlib.Core.Path.{◌≡◌}
 use Prim.Native.Nat.{◌-◌, ◌≤◌}
-use native.Mathlib.Omega.{arith}
-use borrow.Author.Rules.{rules}
 use Rattle.fields.specs.ByNumber.{BlocksBefore}
-use Rattle.fields.specs.laws.BlocksBefore.{none_before, blocks_more}
 use Rattle.fields.proofs.blocks_before.Given as goal
 
 abbrev pub invariant-loop-i : goal.invariant-loop-i

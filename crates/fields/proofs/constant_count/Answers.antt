@@ -1,4 +1,3 @@
-use borrow.Author.Rules.{rules}
 use mathlib.Core.Path.{◌∙◌}
 use Rattle.fields.specs.laws.Regions.{constants_at}
 use Rattle.fields.proofs.constant_count.Goals as goal

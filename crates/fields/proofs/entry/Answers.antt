@@ -1,4 +1,3 @@
-use borrow.Author.Rules.{rules}
 use mathlib.Core.Path.{◌∙◌}
 use Rattle.fields.specs.laws.Regions.{entry_is}
 use Rattle.fields.proofs.entry.Goals as goal

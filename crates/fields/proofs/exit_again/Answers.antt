@@ -1,4 +1,3 @@
-use borrow.Author.Rules.{rules}
 use mathlib.Core.Path.{◌∙◌}
 use Rattle.fields.specs.laws.Regions.{exits_at}
 use Rattle.fields.specs.laws.Repeats.{again_is}

@@ -1,4 +1,3 @@
-use borrow.Author.Rules.{rules}
 use mathlib.Core.Path.{◌∙◌}
 use Rattle.fields.specs.laws.Regions.{inputs_at}
 use Rattle.fields.proofs.input_count.Goals as goal

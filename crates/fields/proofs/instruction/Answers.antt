@@ -1,4 +1,3 @@
-use borrow.Author.Rules.{rules}
 use Rattle.fields.specs.laws.Instructions.{instruction_by, instruction_at}
 use Rattle.fields.proofs.instruction.Goals as goal
 

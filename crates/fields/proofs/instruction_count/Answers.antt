@@ -1,11 +1,4 @@
-use borrow.Author.Rules.{rules}
-use mathlib.Core.Path.{◌≡◌}
-use Prim.Native.Nat.{◌≤◌, ◌-◌, ◌+◌, ◌*◌}
 use native.Mathlib.Omega.{arith}
-use lib.ListN.{length, drop}
-use Rattle.meaning.specs.Graph.{region}
-use Rattle.format.specs.References.{instructions}
-use Rattle.record.specs.Stands.{OfRecord}
 use Rattle.fields.specs.laws.Numbered.{count_more, count_all}
 use Rattle.fields.proofs.instruction_count.Goals as goal
 

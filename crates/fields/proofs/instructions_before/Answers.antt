@@ -1,11 +1,5 @@
-use mathlib.Core.Path.{◌≡◌, refl}
-use Prim.Native.Nat.{◌≤◌, ◌-◌, ◌*◌}
 use native.Mathlib.Omega.{arith}
-use Rattle.meaning.specs.Graph.{region}
-use Rattle.record.specs.Stands.{OfRecord}
-use Rattle.fields.specs.ByNumber.{instructions_before}
 use Rattle.fields.specs.laws.BlocksBefore.{more_instructions}
-use borrow.Author.Rules.{rules}
 use Rattle.fields.proofs.instructions_before.Goals as goal
 
 pub loop-q-preserved : goal.loop-q-preserved

@@ -1,11 +1,5 @@
-use borrow.Author.Rules.{rules}
-use mathlib.Core.Path.{◌≡◌, refl, sym, ap, ◌∙◌}
-use Prim.Native.Nat.{◌≤◌, ◌-◌}
+use mathlib.Core.Path.{sym, ap, ◌∙◌}
 use native.Mathlib.Omega.{arith}
-use lib.ListN.{get_or, drop}
-use Rattle.meaning.specs.Graph.{region}
-use Rattle.format.specs.References.{instructions, no_instr, instr_type}
-use Rattle.record.specs.Stands.{OfRecord}
 use Rattle.fields.specs.laws.Numbered.{this_block, later_block, no_block}
 use Rattle.fields.proofs.output_type.Goals as goal
 

@@ -1,12 +1,9 @@
-use borrow.Author.Rules.{rules}
-use mathlib.Core.Path.{◌≡◌, refl, sym, ap, ◌∙◌}
+use mathlib.Core.Path.{◌≡◌}
 use Prim.Native.Nat.{◌≤◌, ◌-◌}
-use native.Mathlib.Omega.{arith}
 use lib.ListN.{get_or, drop}
 use Rattle.meaning.specs.Graph.{region}
 use Rattle.format.specs.References.{instructions, no_instr, instr_type}
 use Rattle.record.specs.Stands.{OfRecord}
-use Rattle.fields.specs.laws.Numbered.{this_block, later_block, no_block}
 use Rattle.fields.proofs.output_type.Given as goal
 
 abbrev pub invariant-loop-b : goal.invariant-loop-b

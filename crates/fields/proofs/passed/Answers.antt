@@ -1,4 +1,3 @@
-use borrow.Author.Rules.{rules}
 use mathlib.Core.Path.{◌∙◌}
 use Rattle.fields.specs.laws.Lists.{value_item_is}
 use Rattle.fields.specs.laws.Passed.{passed_at}

@@ -1,4 +1,3 @@
-use borrow.Author.Rules.{rules}
 use mathlib.Core.Path.{◌∙◌}
 use Rattle.fields.specs.laws.Passed.{passed_at}
 use Rattle.fields.proofs.passed_count.Goals as goal

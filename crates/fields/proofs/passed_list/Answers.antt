@@ -1,4 +1,3 @@
-use borrow.Author.Rules.{rules}
 use Rattle.fields.specs.laws.Lists.{values_listed}
 use Rattle.fields.specs.laws.Passed.{passed_at}
 use Rattle.fields.proofs.passed_list.Goals as goal

@@ -1,4 +1,3 @@
-use borrow.Author.Rules.{rules}
 use mathlib.Core.Path.{◌∙◌}
 use Rattle.fields.specs.laws.Passed.{targets_at, target_is}
 use Rattle.fields.specs.laws.Lists.{word_item_is}

@@ -1,4 +1,3 @@
-use borrow.Author.Rules.{rules}
 use mathlib.Core.Path.{◌∙◌}
 use Rattle.fields.specs.laws.Passed.{target_count}
 use Rattle.fields.proofs.target_count.Goals as goal

@@ -1,4 +1,3 @@
-use borrow.Author.Rules.{rules}
 use mathlib.Core.Path.{◌∙◌}
 use Rattle.fields.specs.laws.Regions.{test_cost_is}
 use Rattle.fields.proofs.test_cost.Goals as goal

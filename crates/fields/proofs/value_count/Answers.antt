@@ -1,4 +1,3 @@
-use borrow.Author.Rules.{rules}
 use mathlib.Core.Path.{◌∙◌}
 use Rattle.fields.specs.laws.Terminators.{values_at}
 use Rattle.fields.proofs.value_count.Goals as goal

@@ -1,4 +1,3 @@
-use borrow.Author.Rules.{rules}
 use Rattle.fields.specs.laws.Lists.{values_listed}
 use Rattle.fields.specs.laws.Terminators.{values_at}
 use Rattle.fields.proofs.value_list.Goals as goal

@@ -9,7 +9,7 @@ use Rattle.std.proofs.Math.ListN.{get_or-eq_default}
 use Rattle.std.proofs.lemmas.List.{length-map}
 use Rattle.std.proofs.lemmas.Bool.{eqb-false}
 use Rattle.meaning.specs.Runs.{LoopNode, Nodes, ◌▸◌, loop, ⟨⟩}
-use Rattle.meaning.specs.Graph.{Value, bool, input, region, undef}
+use Rattle.meaning.specs.Graph.{Value, bool, input, undef}
 use Rattle.meaning.specs.facts.Tests.{clash, eqb_self, false_if, or_either}
 use Rattle.nesting.specs.lookups.Contexts.{InContext, context_replaced, entry_at, open_else, own_in}
 use Rattle.meaning.specs.Lists.{any, pick}

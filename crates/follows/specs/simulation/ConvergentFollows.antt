@@ -1,7 +1,7 @@
 -- A select of which one case goes on: the others end inside it, and that case's children follow it.
 use Rattle.std.specs.Prelude.{◌||◌, false, List, [], ◌∷◌, map, ◌⊎◌, ◌≡◌, ◌<◌, ◌≤◌, ℕ, eqb, length}
 use Rattle.std.proofs.Common.{inl, inr, ◌∙◌, ap, subst, sym}
-use Rattle.std.proofs.Math.Option.{none, some}
+use Rattle.std.proofs.Math.Option.{some}
 use Rattle.std.proofs.Math.Path.{refl}
 use Rattle.meaning.specs.Runs.{Cases, Nodes, ◌▸◌, ⟨⟩, Ran, and_then, case_count, ended, no_end, pay, run_nodes, through, End, Event}
 use Rattle.meaning.specs.Runs.{RunState, place_taken, word}

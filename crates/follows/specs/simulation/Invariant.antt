@@ -7,7 +7,7 @@ use Rattle.std.specs.Prelude.{Bool, false, true, List, [], ◌∷◌, ◌++◌, 
 use Rattle.std.proofs.Math.Option.{Option, none, some}
 use Rattle.std.proofs.Common.{◌∙◌, ap, subst, sym, arith}
 use Rattle.meaning.specs.Runs.{Nodes}
-use Rattle.meaning.specs.Graph.{Value, region}
+use Rattle.meaning.specs.Graph.{Value}
 use Rattle.nesting.specs.lookups.ChainEnds.{RewritesTo, entry_kept}
 use Rattle.meaning.specs.facts.Tests.{clash}
 use Rattle.nesting.specs.lookups.Contexts.{InContext, Rooted, open_else, rooted_add}

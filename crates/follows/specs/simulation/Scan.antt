@@ -5,7 +5,7 @@ use Rattle.std.proofs.Common.{inl, inr, ◌∙◌, ap, sym, eqb-true}
 use Rattle.std.proofs.Math.Option.{Option, none, some}
 use Rattle.std.proofs.Math.Path.{refl, subst}
 use Prim.Native.Nat.{suc, zero, ℕ}
-use Rattle.meaning.specs.Graph.{Value, bool, bool_cond, region}
+use Rattle.meaning.specs.Graph.{Value, bool, bool_cond}
 use Rattle.meaning.specs.Runs.{End, Event, RunState, place_taken, word}
 use Rattle.nesting.specs.Nesting.{same_target, Body, ClaimedRegion, MaybeClaimedRegion, err, lazy, ok, Claim, SplitOut, resolve_by}
 use Rattle.nesting.specs.Nesting.{resolve_deferred, split_out_matching, DeferredEdgeBundle, DeferredEdgeBundleSet, DeferredTarget, LazyCond}

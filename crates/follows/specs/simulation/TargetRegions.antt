@@ -69,7 +69,7 @@ module _ (W : World) where
   in_targets [] ed i = absurd i
   in_targets (x ∷ es) ed (inl p) =
       subst (λ (z : Edge). is_in z.target (x.target ∷ map (λ e. e.target) es) ≡ true) (sym p)
-          (in_front x.target (map (λ e. e.target) es))
+      (in_front x.target (map (λ e. e.target) es))
   in_targets (x ∷ es) ed (inr i) = in_rest ed.target x.target (map (λ e. e.target) es) (in_targets es ed i)
 
   module _ (cl : Claim) (cl_ok : ClaimOk cl) where

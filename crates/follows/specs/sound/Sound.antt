@@ -3,7 +3,6 @@ use Rattle.std.specs.Prelude.{◌≡◌, refl, Bool, true, false, List, ℕ, ◌
 use Rattle.std.proofs.Common.{ap, ◌∙◌}
 use Rattle.std.proofs.Math.Option.{Option}
 use Rattle.meaning.specs.Graph.{Value, Graph}
-use Rattle.format.specs.Store
 use Rattle.format.specs.Store.{Answer, accepted, refused}
 use Rattle.format.specs.Accept.{accept}
 use Rattle.format.specs.Valid.{Valid}
@@ -13,7 +12,7 @@ use Rattle.nesting.specs.laws.NoMarks.{no_marks}
 use Rattle.nesting.specs.named.ValidNamed.{nested_named}
 use Rattle.meaning.specs.facts.Tests.{clash}
 use Rattle.format.specs.laws.WellRead.{step}
-use Rattle.nesting.specs.Nesting.{Outcome, untouched, whole, closed, leftover, Nested, structurize_func}
+use Rattle.nesting.specs.Nesting.{Nested, structurize_func}
 use Rattle.nesting.specs.Sheet.{figure, Sheet, sheet_of, sheet_words, sheet_for, words_fit, answer}
 use Rattle.follows.specs.Statements.{HasForm, is_whole, is_closed, SoundSheet, Sound, Refusal, by_store, by_limit, by_lent, by_figure}
 use Rattle.follows.specs.Statements.{Refused}

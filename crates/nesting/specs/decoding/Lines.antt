@@ -2,7 +2,7 @@
 -- nested form; this one is made from what a reader of words can give back. LinesWritten shows that they agree.
 use Rattle.std.specs.Prelude.{List, [], ◌∷◌, ◌++◌, map, Bool, ℕ, get_or, eqb}
 use Rattle.meaning.specs.Lists.{concat, pick}
-use Rattle.meaning.specs.Graph.{Code, undef, Graph}
+use Rattle.meaning.specs.Graph.{Code, Graph}
 use Rattle.meaning.specs.Runs.{Node, block, select, loop, exit, Nodes, ⟨⟩, ◌▸◌, Cases, ∅, case}
 use Rattle.meaning.specs.Text.{Text, ascii, decimal}
 use Rattle.nesting.specs.Nesting.{Outcome, DeferredEdgeBundle, untouched, whole, closed, leftover, Piece, Nested}

@@ -4,7 +4,7 @@ use Rattle.std.proofs.Math.Bool.{true, false}
 use mathlib.Core.List.{List, [], ◌∷◌, ◌++◌, map}
 use Rattle.std.proofs.Math.Option.{Option, none, some}
 use Rattle.meaning.specs.Graph.{Value, bool, undef, SelectionKind, bool_cond, number, ControlInst, unreachable, return, exit_invocation}
-use Rattle.meaning.specs.Graph.{branch, select_branch, Graph, region, same_values}
+use Rattle.meaning.specs.Graph.{branch, select_branch, Graph, same_values}
 use Rattle.meaning.specs.Runs.{loop, Nodes, ⟨⟩, ◌▸◌, Cases}
 use Rattle.meaning.specs.Lists.{any, pick}
 use Rattle.nesting.specs.Nesting.{exit_targets, most_merges, most_nodes, most_outputs, most_regions, LazyCond, undef_cond, false_cond}

@@ -2,8 +2,7 @@
 use mathlib.Core.Path.{refl, sym}
 use native.Mathlib.Omega.{arith}
 use Rattle.reading.specs.laws.AnswerSteps.{word_read, word_refused}
-use Rattle.record.specs.laws.RecordSteps.{in_words, too_long, record_stop, record_whole, head_few, number_of_head}
-use borrow.Author.Rules.{rules}
+use Rattle.record.specs.laws.RecordSteps.{in_words, record_stop, record_whole, head_few, number_of_head}
 use Rattle.record.proofs.read_record.Goals as goal
 
 pub refusal-requires : goal.refusal-requires

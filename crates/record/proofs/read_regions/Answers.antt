@@ -1,11 +1,9 @@
-use mathlib.Core.Path.{◌≡◌, refl, sym, ◌∙◌}
-use Prim.Native.Nat.{◌-◌}
+use mathlib.Core.Path.{refl, sym, ◌∙◌}
 use native.Mathlib.Omega.{arith}
-use borrow.Author.Rules.{rules}
 use Rattle.reading.specs.laws.AnswerSteps.{step_read}
 use Rattle.meaning.specs.facts.Parts.{taken_inside}
 use Rattle.record.specs.laws.RegionsForgotten.{region_inside}
-use Rattle.record.specs.laws.IndexSteps.{RegionsGoing, regions_start, regions_next, number_of_region, regions_refused}
+use Rattle.record.specs.laws.IndexSteps.{regions_start, regions_next, number_of_region, regions_refused}
 use Rattle.record.specs.laws.IndexSteps.{regions_read, regions_left}
 use Rattle.record.proofs.read_regions.Goals as goal
 

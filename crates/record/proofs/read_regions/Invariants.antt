@@ -1,13 +1,7 @@
 -- The loop follows `regions_from`, and the index has each region passed (`RegionsGoing`).
-use mathlib.Core.Path.{◌≡◌, refl, sym, ◌∙◌}
+use mathlib.Core.Path.{◌≡◌}
 use Prim.Native.Nat.{◌-◌}
-use native.Mathlib.Omega.{arith}
-use borrow.Author.Rules.{rules}
-use Rattle.reading.specs.laws.AnswerSteps.{step_read}
-use Rattle.meaning.specs.facts.Parts.{taken_inside}
-use Rattle.record.specs.laws.RegionsForgotten.{region_inside}
-use Rattle.record.specs.laws.IndexSteps.{RegionsGoing, regions_start, regions_next, number_of_region, regions_refused}
-use Rattle.record.specs.laws.IndexSteps.{regions_read, regions_left}
+use Rattle.record.specs.laws.IndexSteps.{RegionsGoing}
 use Rattle.record.proofs.read_regions.Given as goal
 
 abbrev pub invariant-loop-r : goal.invariant-loop-r

@@ -11,7 +11,7 @@ use borrow.Author.Tests.{eq-eqb, ne_eqb, ltb-true, ltb-false}
 use Rattle.meaning.specs.Graph.{Region}
 use Rattle.meaning.specs.facts.Numbers.{one_less, none_left}
 use Rattle.format.specs.Store.{Answer, accepted, refused, if_accepted}
-use Rattle.format.specs.Read.{Read, got, bad, read_region, block, word_for, settle, regions_from}
+use Rattle.format.specs.Read.{Read, got, bad, read_region, word_for, settle, regions_from}
 use Rattle.format.specs.Refusals.{wrong_word_count, out_of_range}
 use Rattle.format.specs.laws.ReadingStops.{StopsReading, region_stops}
 use Rattle.meaning.specs.Lists.{Within}

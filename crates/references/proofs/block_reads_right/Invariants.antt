@@ -1,13 +1,8 @@
 -- Each round has one instruction.
-use borrow.Author.Rules.{rules}
 use Prim.Native.Nat.{◌+◌, ◌-◌}
-use native.Mathlib.Omega.{arith}
-use native.Mathlib.Nat.{add-zero}
-use lib.ListN.{drop}
 use Rattle.format.specs.References as format
 use Rattle.fields.specs.ByNumber.{block_of, instr_of}
-use Rattle.references.specs.laws.Walks.{reads_walk}
-use Rattle.references.specs.laws.Rounds.{Round, round_end, call_passed, call_refused}
+use Rattle.references.specs.laws.Rounds.{Round}
 use Rattle.references.proofs.block_reads_right.Given as goal
 
 abbrev pub invariant-loop-i : goal.invariant-loop-i

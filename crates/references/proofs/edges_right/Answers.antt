@@ -1,15 +1,10 @@
-use borrow.Author.Rules.{rules}
-use Prim.Native.Nat.{◌-◌}
 use native.Mathlib.Omega.{arith}
 use mathlib.Core.Path.{refl}
-use mathlib.Core.List.{[]}
 use lib.ListN.{drop}
 use Rattle.meaning.specs.Graph.{region, edges_of, targets_of}
 use Rattle.format.specs.References as format
 use Rattle.fields.specs.ByNumber.{before}
-use Rattle.references.specs.Checks.{first_right}
 use Rattle.references.specs.laws.EdgesWalk.{edges_walk}
-use Rattle.references.specs.laws.Rounds.{Round, round_end, call_passed, call_refused}
 use Rattle.references.proofs.edges_right.Goals as goal
 
 pub loop-j-init : goal.loop-j-init

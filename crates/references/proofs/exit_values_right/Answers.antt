@@ -1,13 +1,10 @@
-use borrow.Author.Rules.{rules}
-use Prim.Native.Nat.{◌-◌}
 use native.Mathlib.Omega.{arith}
-use mathlib.Core.Path.{refl, ◌∙◌}
-use lib.ListN.{get_or, drop}
+use mathlib.Core.Path.{refl}
+use lib.ListN.{drop}
 use Rattle.meaning.specs.Graph.{no_value}
 use Rattle.format.specs.References as format
 use Rattle.fields.specs.ByNumber.{end_values}
 use Rattle.references.specs.laws.Walks.{each_walk}
-use Rattle.references.specs.laws.Rounds.{Round, round_end, call_passed, call_refused}
 use Rattle.references.proofs.exit_values_right.Goals as goal
 
 pub loop-k-init : goal.loop-k-init

@@ -1,15 +1,10 @@
-use borrow.Author.Rules.{rules}
-use Prim.Native.Nat.{◌-◌}
 use native.Mathlib.Omega.{arith}
-use mathlib.Core.Path.{refl, sym, ◌∙◌}
-use mathlib.Core.List.{[]}
+use mathlib.Core.Path.{refl}
 use lib.ListN.{drop}
 use Rattle.meaning.specs.Graph.{region}
 use Rattle.format.specs.References as format
 use Rattle.fields.specs.ByNumber.{before}
-use Rattle.references.specs.laws.Walks.{exit_right, exits_walk}
-use Rattle.references.specs.laws.Steps.{bad_exit, exit_twice, good_exit}
-use Rattle.references.specs.laws.Rounds.{Round, round_end, round_passed, round_refused}
+use Rattle.references.specs.laws.Walks.{exits_walk}
 use Rattle.references.proofs.exits_right.Goals as goal
 
 pub loop-k-init : goal.loop-k-init

@@ -1,14 +1,10 @@
 -- Each round has one read.
-use borrow.Author.Rules.{rules}
 use Prim.Native.Nat.{◌-◌}
-use native.Mathlib.Omega.{arith}
-use mathlib.Core.Path.{refl, ap, ◌∙◌}
-use lib.ListN.{get_or, drop}
+use lib.ListN.{get_or}
 use Rattle.meaning.specs.Graph.{no_value}
 use Rattle.format.specs.References as format
 use Rattle.fields.specs.ByNumber.{instr_of}
-use Rattle.references.specs.laws.Walks.{each_walk}
-use Rattle.references.specs.laws.Rounds.{Round, round_end, call_passed, call_refused}
+use Rattle.references.specs.laws.Rounds.{Round}
 use Rattle.references.proofs.instruction_reads_right.Given as goal
 
 abbrev pub invariant-loop-k : goal.invariant-loop-k

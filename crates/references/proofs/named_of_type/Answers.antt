@@ -1,4 +1,3 @@
-use borrow.Author.Rules.{rules}
 use Rattle.references.specs.laws.Steps.{not_typed, other_type, right_type}
 use Rattle.references.proofs.named_of_type.Goals as goal
 

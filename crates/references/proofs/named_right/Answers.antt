@@ -1,4 +1,3 @@
-use borrow.Author.Rules.{rules}
 use Rattle.references.specs.laws.Steps.{not_named, is_named}
 use Rattle.references.proofs.named_right.Goals as goal
 

@@ -1,16 +1,11 @@
 -- As many values as inputs, and then each round has one of both.
-use borrow.Author.Rules.{rules}
 use Prim.Native.Nat.{◌-◌}
-use native.Mathlib.Omega.{arith}
-use mathlib.Core.Path.{◌∙◌}
-use lib.ListN.{get_or, drop}
+use lib.ListN.{get_or}
 use Rattle.meaning.specs.Graph.{no_value, region}
 use Rattle.format.specs.References as format
 use Rattle.fields.specs.ByNumber.{edge_of}
 use Rattle.references.specs.Checks.{typed}
-use Rattle.references.specs.laws.Walks.{types_walk}
-use Rattle.references.specs.laws.Steps.{edge_differs, edge_agrees}
-use Rattle.references.specs.laws.Rounds.{Round, round_end, call_passed, call_refused}
+use Rattle.references.specs.laws.Rounds.{Round}
 use Rattle.references.proofs.passed_right.Given as goal
 
 abbrev pub invariant-loop-k : goal.invariant-loop-k

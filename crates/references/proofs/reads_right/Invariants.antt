@@ -1,13 +1,9 @@
-use borrow.Author.Rules.{rules}
-use mathlib.Core.Path.{◌≡◌, refl, sym, ap, ◌∙◌}
+use mathlib.Core.Path.{◌≡◌}
 use Prim.Native.Nat.{◌≤◌, ◌-◌, ◌*◌}
-use native.Mathlib.Omega.{arith}
 use lib.ListN.{drop}
 use Rattle.meaning.specs.Graph.{region}
 use Rattle.format.specs.References as format
 use Rattle.record.specs.Stands.{OfRecord}
-use Rattle.store.specs.Loaded.{answered}
-use Rattle.references.specs.laws.Steps.{block_passes, block_stops, blocks_end}
 use Rattle.references.proofs.reads_right.Given as goal
 
 abbrev pub invariant-loop-b : goal.invariant-loop-b

@@ -1,12 +1,8 @@
-use borrow.Author.Rules.{rules}
-use Prim.Native.Nat.{◌-◌}
 use native.Mathlib.Omega.{arith}
 use lib.ListN.{drop}
-use Rattle.meaning.specs.Graph.{region}
 use Rattle.format.specs.References as format
 use Rattle.references.specs.laws.Walks.{regions_walk}
 use Rattle.references.specs.laws.Steps.{bad_entry, good_entry}
-use Rattle.references.specs.laws.Rounds.{Round, round_end, call_passed, call_refused}
 use Rattle.references.proofs.references.Goals as goal
 
 pub returns-then-n-entry : goal.returns-then-n-entry

@@ -1,13 +1,8 @@
 -- The entry, and then each round has one region.
-use borrow.Author.Rules.{rules}
 use Prim.Native.Nat.{◌-◌}
-use native.Mathlib.Omega.{arith}
-use lib.ListN.{drop}
 use Rattle.meaning.specs.Graph.{region}
 use Rattle.format.specs.References as format
-use Rattle.references.specs.laws.Walks.{regions_walk}
-use Rattle.references.specs.laws.Steps.{bad_entry, good_entry}
-use Rattle.references.specs.laws.Rounds.{Round, round_end, call_passed, call_refused}
+use Rattle.references.specs.laws.Rounds.{Round}
 use Rattle.references.proofs.references.Given as goal
 
 abbrev pub invariant-loop-r : goal.invariant-loop-r

@@ -1,15 +1,11 @@
-use borrow.Author.Rules.{rules}
-use Prim.Native.Nat.{◌-◌}
 use native.Mathlib.Omega.{arith}
 use mathlib.Core.Path.{◌∙◌}
-use lib.ListN.{get_or, drop}
-use Rattle.meaning.specs.Graph.{no_value}
+use lib.ListN.{drop}
 use Rattle.format.specs.References as format
 use Rattle.fields.specs.ByNumber.{end_values}
-use Rattle.references.specs.Checks.{typed}
 use Rattle.references.specs.laws.Walks.{types_walk}
 use Rattle.references.specs.laws.Steps.{sizes_differ, sizes_agree, return_count, return_type}
-use Rattle.references.specs.laws.Rounds.{Round, round_end, call_passed, call_refused}
+use Rattle.references.specs.laws.Rounds.{call_passed, call_refused}
 use Rattle.references.proofs.returned_right.Goals as goal
 
 pub returns-then-n-value_count : goal.returns-then-n-value_count

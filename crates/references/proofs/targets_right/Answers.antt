@@ -1,14 +1,11 @@
-use borrow.Author.Rules.{rules}
-use Prim.Native.Nat.{◌-◌}
 use native.Mathlib.Omega.{arith}
 use mathlib.Core.Path.{refl}
 use lib.ListN.{drop}
 use Rattle.meaning.specs.Graph.{region, edges_of, no_edge}
 use Rattle.format.specs.References as format
-use Rattle.fields.specs.ByNumber.{edge_of}
 use Rattle.references.specs.laws.Walks.{each_walk}
 use Rattle.references.specs.laws.Steps.{bad_target, good_target}
-use Rattle.references.specs.laws.Rounds.{Round, round_end, round_passed, round_refused}
+use Rattle.references.specs.laws.Rounds.{round_passed, round_refused}
 use Rattle.references.proofs.targets_right.Goals as goal
 
 pub loop-j-init : goal.loop-j-init

@@ -1,15 +1,9 @@
 -- Each round has one target: a region, or none.
-use borrow.Author.Rules.{rules}
 use Prim.Native.Nat.{◌-◌}
-use native.Mathlib.Omega.{arith}
-use mathlib.Core.Path.{refl}
-use lib.ListN.{drop}
-use Rattle.meaning.specs.Graph.{region, edges_of, no_edge}
+use Rattle.meaning.specs.Graph.{region, edges_of}
 use Rattle.format.specs.References as format
 use Rattle.fields.specs.ByNumber.{edge_of}
-use Rattle.references.specs.laws.Walks.{each_walk}
-use Rattle.references.specs.laws.Steps.{bad_target, good_target}
-use Rattle.references.specs.laws.Rounds.{Round, round_end, round_passed, round_refused}
+use Rattle.references.specs.laws.Rounds.{Round}
 use Rattle.references.proofs.targets_right.Given as goal
 
 abbrev pub invariant-loop-j : goal.invariant-loop-j

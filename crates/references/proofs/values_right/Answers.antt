@@ -1,4 +1,3 @@
-use borrow.Author.Rules.{rules}
 use mathlib.Core.Path.{ap, ◌∙◌}
 use Rattle.format.specs.References as format
 use Rattle.references.specs.laws.Steps.{test_bool, test_number}

@@ -8,7 +8,7 @@ use native.Mathlib.Omega.{arith}
 use Rattle.std.proofs.Math.ListN.{length, get_or-map}
 use Rattle.std.proofs.lemmas.List.{length-map}
 use Rattle.meaning.specs.Graph.{Graph, Value, no_value, undef, Instr, Edge, SelectionKind, bool_cond, number, ControlInst, select_branch}
-use Rattle.meaning.specs.Graph.{Region, region, nowhere, edges_of}
+use Rattle.meaning.specs.Graph.{Region, region, edges_of}
 use Rattle.format.specs.Store.{Answer, accepted, refused, if_accepted}
 use Rattle.format.specs.References.{instructions, type_in, behind_all, refuse_unless, first_refusal, first_return, return_types}
 use Rattle.format.specs.References.{values_of, is_region, named_right, of_type, reads_right, types_right, passed_right, test_right}

@@ -1,11 +1,9 @@
-use mathlib.Core.Bool.{true}
-use mathlib.Core.Path.{◌≡◌, refl, sym, ◌∙◌, ap}
-use Prim.Native.Nat.{◌+◌, ◌-◌, ◌≤◌}
+use mathlib.Core.Path.{refl, sym, ◌∙◌, ap}
 use native.Mathlib.Nat.{add_assoc}
 use native.Mathlib.Omega.{arith}
 use Rattle.format.specs.Store.{all_zero}
 use Rattle.store.specs.Block.{byte_place}
-use Rattle.store.specs.laws.Words.{place_within, word_read}
+use Rattle.store.specs.laws.Words.{word_read}
 use Rattle.format.specs.laws.Stores.{zero_more, zero_stays}
 use Rattle.store.proofs.all_zero.Goals as goal
 

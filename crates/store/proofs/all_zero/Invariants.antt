@@ -1,12 +1,8 @@
 use mathlib.Core.Bool.{true}
-use mathlib.Core.Path.{◌≡◌, refl, sym, ◌∙◌, ap}
+use mathlib.Core.Path.{◌≡◌}
 use Prim.Native.Nat.{◌+◌, ◌-◌, ◌≤◌}
-use native.Mathlib.Nat.{add_assoc}
-use native.Mathlib.Omega.{arith}
 use Rattle.format.specs.Store.{all_zero}
 use Rattle.store.specs.Block.{byte_place}
-use Rattle.store.specs.laws.Words.{place_within, word_read}
-use Rattle.format.specs.laws.Stores.{zero_more, zero_stays}
 use Rattle.store.proofs.all_zero.Given as goal
 
 abbrev pub invariant-loop-n : goal.invariant-loop-n

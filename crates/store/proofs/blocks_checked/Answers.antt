@@ -1,9 +1,6 @@
-use mathlib.Core.Path.{◌≡◌, refl, sym, ap, ◌∙◌}
-use Prim.Native.Nat.{◌-◌, ◌≤◌}
+use mathlib.Core.Path.{refl, sym, ◌∙◌}
 use native.Mathlib.Omega.{arith}
-use borrow.Author.Rules.{rules}
-use Rattle.format.specs.Store.{accepted, blocks_checked}
-use Rattle.store.specs.Loaded.{answered}
+use Rattle.format.specs.Store.{blocks_checked}
 use Rattle.store.specs.laws.Blocks.{blocks_more, blocks_stop}
 use Rattle.store.proofs.blocks_checked.Goals as goal
 

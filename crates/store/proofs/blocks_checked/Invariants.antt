@@ -1,10 +1,6 @@
-use mathlib.Core.Path.{◌≡◌, refl, sym, ap, ◌∙◌}
+use mathlib.Core.Path.{◌≡◌}
 use Prim.Native.Nat.{◌-◌, ◌≤◌}
-use native.Mathlib.Omega.{arith}
-use borrow.Author.Rules.{rules}
 use Rattle.format.specs.Store.{accepted, blocks_checked}
-use Rattle.store.specs.Loaded.{answered}
-use Rattle.store.specs.laws.Blocks.{blocks_more, blocks_stop}
 use Rattle.store.proofs.blocks_checked.Given as goal
 
 abbrev pub invariant-loop-b : goal.invariant-loop-b

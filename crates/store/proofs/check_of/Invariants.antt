@@ -1,9 +1,6 @@
-use mathlib.Core.Path.{◌≡◌, refl, ◌∙◌, ap}
-use Prim.Native.Nat.{◌+◌, ◌*◌, ◌-◌, ◌≤◌}
-use native.Mathlib.Omega.{arith}
-use lib.ListN.{get_or}
+use mathlib.Core.Path.{◌≡◌}
+use Prim.Native.Nat.{◌*◌, ◌-◌, ◌≤◌}
 use Rattle.format.specs.Store.{weighted}
-use Rattle.format.specs.laws.Stores.{weight_bound, weighted_more}
 use Rattle.store.proofs.check_of.Given as goal
 
 abbrev pub invariant-loop-place : goal.invariant-loop-place

@@ -1,12 +1,6 @@
-use mathlib.Core.List.{◌++◌}
-use mathlib.Core.Path.{◌≡◌, refl, ◌∙◌, ap}
-use Prim.Native.Nat.{◌-◌, ◌≤◌}
+use mathlib.Core.Path.{refl}
 use native.Mathlib.Omega.{arith}
-use lib.ListN.{drop}
-use borrow.Author.Rules.{rules}
-use Rattle.format.specs.Store.{word_at}
-use Rattle.store.specs.Block.{byte_place}
-use Rattle.store.specs.laws.Words.{place_within, word_read}
+use Rattle.store.specs.laws.Words.{word_read}
 use Rattle.meaning.specs.facts.Elements.{tabulate_more}
 use Rattle.meaning.specs.Lists.{tabulate}
 use Rattle.store.proofs.copy_words.Goals as goal

@@ -1,13 +1,9 @@
 use mathlib.Core.List.{◌++◌}
-use mathlib.Core.Path.{◌≡◌, refl, ◌∙◌, ap}
+use mathlib.Core.Path.{◌≡◌}
 use Prim.Native.Nat.{◌-◌, ◌≤◌}
-use native.Mathlib.Omega.{arith}
 use lib.ListN.{drop}
-use borrow.Author.Rules.{rules}
 use Rattle.format.specs.Store.{word_at}
 use Rattle.store.specs.Block.{byte_place}
-use Rattle.store.specs.laws.Words.{place_within, word_read}
-use Rattle.meaning.specs.facts.Elements.{tabulate_more}
 use Rattle.meaning.specs.Lists.{tabulate}
 use Rattle.store.proofs.copy_words.Given as goal
 

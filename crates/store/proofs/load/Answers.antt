@@ -1,8 +1,5 @@
-use mathlib.Core.Path.{sym, ap, ◌∙◌}
-use borrow.Author.Rules.{rules}
-use Rattle.format.specs.Store.{store_words}
-use Rattle.store.specs.Loaded.{load_answered}
-use Rattle.store.specs.laws.Store.{holds_counted, kept, filled}
+use mathlib.Core.Path.{◌∙◌}
+use Rattle.store.specs.laws.Store.{holds_counted, filled}
 use Rattle.store.proofs.load.Goals as goal
 
 pub copy_words-requires : goal.copy_words-requires

@@ -1,7 +1,5 @@
 use mathlib.Core.Path.{sym, ap, ◌∙◌}
-use borrow.Author.Rules.{rules}
 use Rattle.format.specs.Store.{accepted, count_right}
-use Rattle.store.specs.Loaded.{answered}
 use Rattle.format.specs.laws.Stores.{length_zero, length_over, length_part, length_right_true}
 use Rattle.store.specs.laws.Store.{length_wrong, blocks_wrong, count_wrong, words_right}
 use Rattle.store.proofs.words_used.Goals as goal

@@ -1,9 +1,5 @@
 use borrow.Author.Rules.{rules}
-use mathlib.Core.Path.{◌≡◌}
-use Prim.Native.Nat.{◌≤◌, ◌-◌}
 use native.Mathlib.Omega.{arith}
-use native.Mathlib.Nat.{sub-zero}
-use Rattle.fields.specs.ItemsAndPlaces as words
 use Rattle.fields.specs.laws.Turns.{instr_turn, instr_stop}
 use Rattle.fields.proofs.places.behind_instructions.Goals as goal
 

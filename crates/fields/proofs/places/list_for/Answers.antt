@@ -1,9 +1,5 @@
-use borrow.Author.Rules.{rules}
-use mathlib.Core.Path.{◌≡◌, sym, ◌∙◌}
-use Prim.Native.Nat.{◌≤◌, ◌-◌}
+use mathlib.Core.Path.{sym, ◌∙◌}
 use native.Mathlib.Omega.{arith}
-use native.Mathlib.Nat.{sub-zero}
-use Rattle.fields.specs.ItemsAndPlaces as words
 use Rattle.fields.specs.laws.Turns.{list_found, list_turn, list_stop}
 use Rattle.fields.proofs.places.list_for.Goals as goal
 

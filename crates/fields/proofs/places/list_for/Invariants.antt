@@ -1,10 +1,6 @@
-use borrow.Author.Rules.{rules}
-use mathlib.Core.Path.{◌≡◌, sym, ◌∙◌}
+use mathlib.Core.Path.{◌≡◌}
 use Prim.Native.Nat.{◌≤◌, ◌-◌}
-use native.Mathlib.Omega.{arith}
-use native.Mathlib.Nat.{sub-zero}
 use Rattle.fields.specs.ItemsAndPlaces as words
-use Rattle.fields.specs.laws.Turns.{list_found, list_turn, list_stop}
 use Rattle.fields.proofs.places.list_for.Given as goal
 
 abbrev pub invariant-loop-q : goal.invariant-loop-q

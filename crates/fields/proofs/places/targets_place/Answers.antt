@@ -1,4 +1,3 @@
-use borrow.Author.Rules.{rules}
 use mathlib.Core.Path.{◌∙◌, ap}
 use Rattle.fields.specs.ItemsAndPlaces as words
 use Rattle.fields.proofs.places.targets_place.Goals as goal

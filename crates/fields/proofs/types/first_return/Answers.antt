@@ -1,10 +1,5 @@
-use borrow.Author.Rules.{rules}
-use mathlib.Core.Path.{◌≡◌, sym, ◌∙◌}
-use Prim.Native.Nat.{◌≤◌, ◌-◌, ◌+◌}
+use mathlib.Core.Path.{sym, ◌∙◌}
 use native.Mathlib.Omega.{arith}
-use lib.ListN.{drop}
-use Rattle.format.specs.References as format
-use Rattle.record.specs.Stands.{OfRecord}
 use Rattle.fields.specs.laws.Returns.{return_here, return_later, no_return}
 use Rattle.fields.proofs.types.first_return.Goals as goal
 

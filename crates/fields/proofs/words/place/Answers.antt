@@ -1,4 +1,3 @@
-use borrow.Author.Rules.{rules}
 use borrow.Author.Tests.{lt-ltb, le-ltb}
 use Rattle.fields.specs.ItemsAndPlaces.{placed}
 use Rattle.meaning.specs.facts.Tests.{picked, passed_over}

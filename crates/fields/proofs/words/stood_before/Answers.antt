@@ -1,6 +1,5 @@
 -- Within the list the search decides; beyond it nothing stands.
 use Rattle.fields.specs.laws.Repeats.{again_by, not_again}
-use borrow.Author.Rules.{rules}
 use Rattle.fields.proofs.words.stood_before.Goals as goal
 
 pub returns-then-q-word_at : goal.returns-then-q-word_at

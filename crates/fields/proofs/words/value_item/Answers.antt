@@ -1,4 +1,3 @@
-use borrow.Author.Rules.{rules}
 use mathlib.Core.Path.{◌∙◌}
 use Rattle.fields.specs.ItemsAndPlaces.{value_item, value_at}
 use Rattle.meaning.specs.facts.Tests.{picked, passed_over, is_below, not_below}

@@ -1,8 +1,7 @@
 use native.Mathlib.Omega.{arith}
-use mathlib.Core.Path.{◌≡◌, refl}
-use Prim.Native.Nat.{◌≤◌, ◌-◌}
+use mathlib.Core.Path.{refl}
 use Rattle.reading.specs.Readings.{firsts}
-use Rattle.reading.specs.laws.Targets.{first_bound, firsts_next, firsts_end}
+use Rattle.reading.specs.laws.Targets.{first_bound, firsts_next}
 use Rattle.reading.proofs.terminators.distinct.Goals as goal
 
 pub loop-j-init : goal.loop-j-init

@@ -1,9 +1,7 @@
 -- The loop's invariant: k is the count over the words passed, and at most their number.
-use native.Mathlib.Omega.{arith}
-use mathlib.Core.Path.{◌≡◌, refl}
+use mathlib.Core.Path.{◌≡◌}
 use Prim.Native.Nat.{◌≤◌, ◌-◌}
 use Rattle.reading.specs.Readings.{firsts}
-use Rattle.reading.specs.laws.Targets.{first_bound, firsts_next, firsts_end}
 use Rattle.reading.proofs.terminators.distinct.Given as goal
 
 abbrev pub invariant-loop-j : goal.invariant-loop-j

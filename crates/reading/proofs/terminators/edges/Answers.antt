@@ -1,7 +1,6 @@
 -- Where the targets are read, each stands among the lent words, and the scan counts the distinct ones; `span` tells their number.
 use mathlib.Core.Path.{refl}
 use native.Mathlib.Omega.{arith}
-use borrow.Author.Rules.{rules}
 use Rattle.reading.specs.laws.TerminatorsForgotten.{edges_stop, edges_rest, targets_inside}
 use Rattle.reading.specs.laws.AnswerSteps.{step_read, step_refused, refuse_step, give_rest}
 use Rattle.reading.proofs.terminators.edges.Goals as goal

@@ -1,7 +1,5 @@
 -- 0 if the word stands before, else 1.
-use native.Mathlib.Omega.{arith}
 use mathlib.Core.Path.{sym, ◌∙◌}
-use borrow.Author.Rules.{rules}
 use Rattle.reading.specs.laws.Targets.{first_zero, first_one}
 use Rattle.reading.proofs.terminators.first_standing.Goals as goal
 

@@ -1,7 +1,6 @@
 -- Of kind 2 one word is read, else none.
 use borrow.Author.Tests.{eq-eqb, ne_eqb}
 use mathlib.Core.Path.{refl}
-use borrow.Author.Rules.{rules}
 use Rattle.reading.specs.laws.TerminatorsForgotten.{opcode_none, opcode_word}
 use Rattle.reading.specs.laws.AnswerSteps.{give_step, give_rest}
 use Rattle.reading.proofs.terminators.opcode_for.Goals as goal

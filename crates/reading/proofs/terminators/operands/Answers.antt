@@ -1,6 +1,5 @@
 -- Each answer is a path through `operands_read`, at the bounds of the kind.
 use mathlib.Core.Path.{refl}
-use borrow.Author.Rules.{rules}
 use Rattle.reading.specs.laws.TerminatorsForgotten.{operands_stop, operands_count, operands_rest}
 use Rattle.reading.specs.laws.AnswerSteps.{word_read, word_refused, step_read, step_refused, refuse_step, give_rest}
 use Rattle.reading.proofs.terminators.operands.Goals as goal

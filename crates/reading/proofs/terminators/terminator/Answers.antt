@@ -1,6 +1,5 @@
 -- Each answer is a path through the reader `terminator`.
 use mathlib.Core.Path.{refl}
-use borrow.Author.Rules.{rules}
 use Rattle.reading.specs.laws.TerminatorsForgotten.{terminator_stop, terminator_opcode, terminator_rest}
 use Rattle.reading.specs.laws.AnswerSteps.{word_read, word_refused, step_read, step_refused, refuse_step, give_rest}
 use Rattle.reading.proofs.terminators.terminator.Goals as goal

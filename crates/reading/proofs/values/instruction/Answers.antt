@@ -1,7 +1,5 @@
 -- Each answer is a path through the reader `instruction`.
 use mathlib.Core.Path.{refl}
-use borrow.Author.Rules.{rules}
-use Rattle.format.specs.Read.{word}
 use Rattle.reading.specs.laws.ValuesForgotten.{instruction_stop, instruction_type, instruction_cost, instruction_rest}
 use Rattle.reading.specs.laws.AnswerSteps.{word_read, word_refused, refuse_step, give_rest}
 use Rattle.reading.proofs.values.instruction.Goals as goal

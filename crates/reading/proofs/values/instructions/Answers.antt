@@ -1,5 +1,4 @@
-use Rattle.format.specs.Read.{instruction}
-use Rattle.reading.specs.laws.Turns.{turning, turns_left, turns}
+use Rattle.reading.specs.laws.Turns.{turns}
 use Rattle.reading.proofs.values.instructions.Goals as goal
 
 pub loop-i-init : goal.loop-i-init

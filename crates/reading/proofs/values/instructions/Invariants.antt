@@ -1,6 +1,6 @@
 -- The loop follows `many`: `turning` says what is left to read, and from where.
 use Rattle.format.specs.Read.{instruction}
-use Rattle.reading.specs.laws.Turns.{turning, turns_left, turns}
+use Rattle.reading.specs.laws.Turns.{turning, turns_left}
 use Rattle.reading.proofs.values.instructions.Given as goal
 
 abbrev pub invariant-loop-i : goal.invariant-loop-i

@@ -1,7 +1,5 @@
 -- Each answer is a path through `Named-by`.
 use mathlib.Core.Path.{refl, sym, ◌∙◌}
-use borrow.Author.Rules.{rules}
-use Rattle.format.specs.Read.{word}
 use Rattle.reading.specs.laws.ValuesForgotten.{named_stop, named_short, named_bad, named_in}
 use Rattle.reading.specs.laws.AnswerSteps.{word_read, word_refused, refuse_step, give_step}
 use Rattle.reading.proofs.values.named.Goals as goal

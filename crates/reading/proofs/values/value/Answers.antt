@@ -1,7 +1,5 @@
 -- Each answer is a path through the reader `value`.
 use mathlib.Core.Path.{refl, sym, ◌∙◌}
-use borrow.Author.Rules.{rules}
-use Rattle.format.specs.Read.{word}
 use Rattle.reading.specs.laws.ValuesForgotten.{value_stop, value_kind, value_rest}
 use Rattle.reading.specs.laws.AnswerSteps.{word_read, word_refused, refuse_step, give_rest}
 use Rattle.reading.proofs.values.value.Goals as goal

@@ -1,10 +1,7 @@
-use borrow.Author.Rules.{rules}
 use native.Mathlib.Omega.{arith}
-use mathlib.Core.Path.{◌≡◌, refl, sym, ◌∙◌}
-use mathlib.Core.Bool.{false}
-use Prim.Native.Nat.{◌≤◌, ◌-◌}
+use mathlib.Core.Path.{refl, sym, ◌∙◌}
 use Rattle.reading.specs.Readings.{stands}
-use Rattle.reading.specs.laws.Targets.{stands_here, stands_not, stands_end}
+use Rattle.reading.specs.laws.Targets.{stands_here, stands_not}
 use Rattle.reading.proofs.words.stands_before.Goals as goal
 
 pub loop-i-init : goal.loop-i-init

@@ -1,11 +1,8 @@
 -- The loop's invariant: t is not among the words passed.
-use borrow.Author.Rules.{rules}
-use native.Mathlib.Omega.{arith}
-use mathlib.Core.Path.{◌≡◌, refl, sym, ◌∙◌}
+use mathlib.Core.Path.{◌≡◌}
 use mathlib.Core.Bool.{false}
 use Prim.Native.Nat.{◌≤◌, ◌-◌}
 use Rattle.reading.specs.Readings.{stands}
-use Rattle.reading.specs.laws.Targets.{stands_here, stands_not, stands_end}
 use Rattle.reading.proofs.words.stands_before.Given as goal
 
 abbrev pub invariant-loop-i : goal.invariant-loop-i

@@ -1,5 +1,5 @@
 use Rattle.format.specs.Read.{type}
-use Rattle.reading.specs.laws.Turns.{turning, turns_left, turns}
+use Rattle.reading.specs.laws.Turns.{turns}
 use Rattle.reading.proofs.words.types.Goals as goal
 
 pub loop-i-init : goal.loop-i-init

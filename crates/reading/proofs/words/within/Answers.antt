@@ -1,7 +1,5 @@
 -- Each answer is a path through the reader `within`.
 use mathlib.Core.Path.{refl}
-use borrow.Author.Rules.{rules}
-use Rattle.format.specs.Read.{word}
 use Rattle.reading.specs.laws.Forgotten.{within_stop, within_low, within_high, within_in}
 use Rattle.reading.specs.laws.AnswerSteps.{word_read, word_refused, refuse_word, give_word}
 use Rattle.reading.proofs.words.within.Goals as goal

@@ -1,7 +1,6 @@
 -- The word is one of the lent words, or the end or the array is passed; `span` tells the array's length.
 use mathlib.Core.Path.{refl}
 use native.Mathlib.Omega.{arith}
-use borrow.Author.Rules.{rules}
 use Rattle.reading.specs.laws.Forgotten.{word_in, word_out, word_past}
 use Rattle.reading.specs.laws.AnswerSteps.{refuse_word, give_word}
 use Rattle.reading.proofs.words.word.Goals as goal

@@ -1,7 +1,6 @@
 -- Three stores and the blocks are a row of the index.
 use native.Mathlib.Omega.{arith}
 use Rattle.record.specs.laws.IndexSteps.{store_row}
-use borrow.Author.Rules.{rules}
 use Rattle.record.proofs.index.put_places.Goals as goal
 
 pub returns : goal.returns

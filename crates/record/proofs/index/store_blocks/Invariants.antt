@@ -1,11 +1,7 @@
 -- The loop's invariant: the words stored so far are a row, and no other word changed.
-use borrow.Author.Rules.{rules}
-use native.Mathlib.Omega.{arith}
-use mathlib.Core.Path.{refl}
 use Prim.Native.Nat.{◌≤◌, ◌-◌}
 use lib.ListN.{get_or}
 use Rattle.record.specs.Index.{Row}
-use Rattle.record.specs.laws.Row.{row_none, row_next, row_end}
 use Rattle.record.proofs.index.store_blocks.Given as goal
 
 abbrev pub invariant-loop-b : goal.invariant-loop-b

@@ -1,7 +1,5 @@
 -- Each answer is a path through `after_count`.
 use mathlib.Core.Path.{refl}
-use borrow.Author.Rules.{rules}
-use Rattle.format.specs.Read.{word}
 use Rattle.reading.specs.laws.AnswerSteps.{word_read, word_refused, refuse_step, give_rest}
 use Rattle.record.specs.laws.RegionsForgotten.{after_count_entry, after_count_test, after_count_rest}
 use Rattle.record.proofs.regions.after_count.Goals as goal

@@ -1,12 +1,9 @@
-use mathlib.Core.Path.{◌≡◌, refl}
-use Prim.Native.Nat.{◌-◌}
+use mathlib.Core.Path.{refl}
 use native.Mathlib.Omega.{arith}
-use lib.ListN.{take}
-use borrow.Author.Rules.{rules}
 use Rattle.reading.specs.laws.AnswerSteps.{step_read, step_refused}
 use Rattle.meaning.specs.facts.Parts.{taken_inside}
 use Rattle.record.specs.laws.RegionsForgotten.{block_inside}
-use Rattle.record.specs.laws.RegionSteps.{BlocksGoing, blocks_start, blocks_next, blocks_stop, blocks_end}
+use Rattle.record.specs.laws.RegionSteps.{blocks_start, blocks_next, blocks_stop, blocks_end}
 use Rattle.record.proofs.regions.blocks.Goals as goal
 
 pub loop-i-init : goal.loop-i-init

@@ -1,6 +1,5 @@
 -- The count is refused, or so many are read.
 use mathlib.Core.Path.{refl}
-use borrow.Author.Rules.{rules}
 use Rattle.reading.specs.laws.AnswerSteps.{word_read, word_refused}
 use Rattle.record.specs.laws.Parts.{within_parts}
 use Rattle.record.specs.laws.RegionSteps.{counted_blocks_stop, counted_blocks_rest}

@@ -1,7 +1,6 @@
 -- Each answer is a path through `ending_read`; a place that is kept stands among the lent words.
 use mathlib.Core.Path.{refl}
 use native.Mathlib.Omega.{arith}
-use borrow.Author.Rules.{rules}
 use Rattle.format.specs.Read.{word}
 use Rattle.reading.specs.laws.AnswerSteps.{word_read, word_refused, step_read, step_refused}
 use Rattle.meaning.specs.facts.Parts.{taken_inside}

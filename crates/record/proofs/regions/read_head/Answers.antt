@@ -1,6 +1,5 @@
 -- Each answer is a path through the reader `head`.
 use mathlib.Core.Path.{refl}
-use borrow.Author.Rules.{rules}
 use Rattle.reading.specs.laws.AnswerSteps.{word_read, word_refused, step_read, step_refused, refuse_word, give_word}
 use Rattle.record.specs.laws.RegionsForgotten.{head_count_is, head_stop, head_rest}
 use Rattle.record.proofs.regions.read_head.Goals as goal

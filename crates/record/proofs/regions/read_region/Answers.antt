@@ -1,6 +1,5 @@
 -- Each answer is a path through the reader `region`.
 use mathlib.Core.Path.{refl}
-use borrow.Author.Rules.{rules}
 use Rattle.reading.specs.laws.AnswerSteps.{step_read, step_refused}
 use Rattle.record.specs.laws.RegionsForgotten.{region_inputs, region_blocks}
 use Rattle.record.specs.laws.RegionSteps.{region_stop, region_whole}

@@ -2,7 +2,6 @@ use Prim.Native.Nat.{◌*◌}
 use native.Mathlib.Omega.{arith}
 use lib.ListN.{take, drop}
 use Rattle.store.specs.laws.Writes.{block_put}
-use borrow.Author.Rules.{rules}
 use Rattle.store.proofs.write.put_block.Goals as goal
 
 pub returns : goal.returns

@@ -1,11 +1,8 @@
 use mathlib.Core.Path.{sym, ◌∙◌}
-use Prim.Native.Nat.{◌+◌, ◌*◌, ◌-◌, ◌≤◌}
 use native.Mathlib.Omega.{arith}
-use lib.ListN.{take, drop}
+use lib.ListN.{take}
 use lib.Seq.{get_or-drop}
-use borrow.Author.Rules.{rules}
-use Rattle.store.specs.Writes.{WordsPut}
-use Rattle.store.specs.laws.Writes.{none_put, word_put, put_count, put_length}
+use Rattle.store.specs.laws.Writes.{none_put, word_put}
 use Rattle.store.proofs.write.put_words.Goals as goal
 
 pub loop-j-init : goal.loop-j-init

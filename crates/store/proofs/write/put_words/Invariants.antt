@@ -1,11 +1,6 @@
-use mathlib.Core.Path.{sym, ◌∙◌}
 use Prim.Native.Nat.{◌+◌, ◌*◌, ◌-◌, ◌≤◌}
-use native.Mathlib.Omega.{arith}
 use lib.ListN.{take, drop}
-use lib.Seq.{get_or-drop}
-use borrow.Author.Rules.{rules}
 use Rattle.store.specs.Writes.{WordsPut}
-use Rattle.store.specs.laws.Writes.{none_put, word_put, put_count, put_length}
 use Rattle.store.proofs.write.put_words.Given as goal
 
 abbrev pub invariant-loop-j : goal.invariant-loop-j

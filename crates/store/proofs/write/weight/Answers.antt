@@ -1,6 +1,5 @@
 use native.Mathlib.Omega.{arith}
 use Rattle.store.specs.laws.Writes.{weight_is, low_weight, high_weight}
-use borrow.Author.Rules.{rules}
 use Rattle.store.proofs.write.weight.Goals as goal
 
 pub returns : goal.returns

@@ -1,10 +1,6 @@
 use mathlib.Core.Path.{sym, ◌∙◌}
-use Prim.Native.Nat.{◌-◌, ◌≤◌}
 use native.Mathlib.Omega.{arith}
-use lib.ListN.{take}
-use borrow.Author.Rules.{rules}
-use Rattle.store.specs.Writes.{BlocksPut}
-use Rattle.store.specs.laws.Writes.{no_block_put, next_block_put, blocks_length, refused_none, refused_over, refused_short}
+use Rattle.store.specs.laws.Writes.{no_block_put, next_block_put, refused_none, refused_over, refused_short}
 use Rattle.store.specs.laws.Writes.{store_put}
 use Rattle.store.proofs.write.write_store.Goals as goal
 
