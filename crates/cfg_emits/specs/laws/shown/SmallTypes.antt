@@ -63,7 +63,7 @@ module _ {g : Graph} (valid : Valid g) where
   unfolding return_types
   small_types stands =
       record {
-        below = λ x k. elim x [
+        below = λ x k. elim x as (λ y. nesting.target_type g y k < 256) [
           | to_region r ↦ (let z = inputs_small r k in omega arith)
           | to_return ↦ (
               let q = first_return g.regions in
