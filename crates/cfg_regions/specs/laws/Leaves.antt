@@ -19,7 +19,7 @@ use Rattle.state_shown.specs.laws.Rewrites.{insert_changes}
 use Rattle.state_shown.specs.laws.FrontKept.{stands_kept, kinds_same, kinds_stored, kinds_run, kinds_by, kinds_then, adds_kinds}
 use Rattle.state_shown.specs.laws.FrontKept.{defines_kinds}
 use Rattle.cfg_bundles.specs.EdgesAndCases.{Appends, appended, its_edge, its_rest, cases_filled, filled_from, split_filled, return_deferred}
-use Rattle.cfg_bundles.specs.EdgesAndCases.{case_inputs}
+use Rattle.cfg_bundles.specs.EdgesAndCases.{case_inputs, case_filled}
 use Rattle.cfg_bundles.specs.laws.paths.Paths.{front_filled}
 use Rattle.cfg_select_nodes.specs.declared.define.Scrutinee.{Scrutinee}
 use Rattle.cfg_select_nodes.specs.Cases.{all_replaced, inputs_replaced}
@@ -93,7 +93,7 @@ joins_kinds (joined d e x) = adds_kinds x
 filled_kinds : (g : Graph) (w : List ℕ) (r n j : ℕ) → SameKinds w (filled_from g w r n j)
 unfolding filled_from
 filled_kinds g w r zero j = kinds_same w
-filled_kinds g w r (suc n) j = kinds_then (front_filled g w r j) (filled_kinds g _ r n (suc j))
+filled_kinds g w r (suc n) j = kinds_then (front_filled g w r j) (filled_kinds g (case_filled g w r j) r n (suc j))
 
 pub cases_kinds : (g : Graph) (w : List ℕ) (r : ℕ) → SameKinds w (cases_filled g w r)
 cases_kinds g w r =
