@@ -41,9 +41,5 @@ fn main(rt: HostRuntime) -> io::Result<()> {
         bits(16, 4064, true, block, &mended, &mut words, &mut out),
         "bits with a right check",
     )?;
-    print(
-        &rt,
-        lengths(&long, &cut, &mut words, &mut out),
-        "lengths",
-    )
+    print(&rt, lengths(&long, &cut, &mut words, &mut out), "lengths")
 }

@@ -13,13 +13,17 @@ fn main(rt: HostRuntime) {
     let mut text = [0u8; 262144];
     let input = read_input(&mut rt.stdin(), &mut bytes);
     if input.failed {
-        let _ = rt.stderr().write_all(b"nest: standard input cannot be read\n");
+        let _ = rt
+            .stderr()
+            .write_all(b"nest: standard input cannot be read\n");
         return;
     }
     let n = input.size;
     let written = text_nest::print(&bytes[..n], &mut words, &mut out, &mut text);
     let size = text_size(written, &text);
     if rt.stdout().write_all(&text[..size]).is_err() {
-        let _ = rt.stderr().write_all(b"nest: standard output cannot be written\n");
+        let _ = rt
+            .stderr()
+            .write_all(b"nest: standard output cannot be written\n");
     }
 }

@@ -4,6 +4,7 @@
 ghost use Rattle.std.specs.Prelude.{◌≡◌, ◌≤◌, [], ◌∷◌, length, take};
 ghost use Rattle.vectors.specs.Reading.{Reads};
 ghost use Rattle.replay.specs.Agrees.{of_sheet, is_shown, agrees};
+ghost use Rattle.replay.specs.Replays.{Replays};
 
 use replay_sheets::sheets::{PRINTED, is_nested};
 use std::io;
@@ -107,7 +108,9 @@ fn fed_all(
 }
 
 // The whole list, in at most so many chunks.
-fn replayed<R: Read>(list: &mut R, turns: u32) -> Tally {
+fn replayed<R: Read>(list: &mut R, turns: u32) -> Tally
+    ensures { Replays (R.remaining list.old) (R.remaining list.new) result }
+{
     let mut chunk = [0u8; 65536];
     let mut text = [0u8; TEXT];
     let mut bytes = [0u8; STORE];

@@ -8,6 +8,6 @@ returns-then-words-tried c = line_missing (none_found c.put_first_line-tried.ens
 
 pub returns : goal.returns
 returns c =
-    line_printed fits_first (λ k. (c.shared_slice_known-1.given k).fits)
+    line_printed fits_first (λ k. (c.type_inv.words k).fits)
     (found c.put_first_line-tried.ensures c.if-words-tried.false) c.put_first_line-end.ensures
     c.put_first_line-end.auto.text c.answer.ensures

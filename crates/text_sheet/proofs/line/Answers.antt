@@ -8,6 +8,6 @@ returns-then-words-tried c = line_missing (none_found c.put_line-tried.ensures.p
 
 pub returns : goal.returns
 returns c =
-    line_printed fits_line (λ k. (c.shared_slice_known-1.given k).fits)
+    line_printed fits_line (λ k. (c.type_inv.words k).fits)
     (found c.put_line-tried.ensures.puts c.if-words-tried.false) c.put_line-end.ensures.puts
     c.put_line-end.auto.text c.answer.ensures

@@ -6,6 +6,6 @@ returns-then-words-tried c = sheet_missing (none_found c.put_sheet-tried.ensures
 
 pub returns : goal.returns
 returns c =
-    sheet_printed (λ k. (c.shared_slice_known-1.given k).fits)
+    sheet_printed (λ k. (c.type_inv.words k).fits)
     (found c.put_sheet-tried.ensures c.if-words-tried.false) c.put_sheet-end.ensures
     c.put_sheet-end.auto.text c.finish.ensures
