@@ -39,7 +39,7 @@ def defined(name: str) -> int:
 def cells() -> int:
     """How many cells there are, as the definitions have it; cell 0 is none."""
     text = (ROOT / "crates" / "state_words" / "specs" / "Rows.antt").read_text(encoding="utf-8")
-    return int(re.findall(r"^most-cells = (\d+)", text, re.M)[0]) - 1
+    return int(re.findall(r"^most_cells = (\d+)", text, re.M)[0]) - 1
 
 
 CLAIM = "cfg_claims::claims::try_claim_edge_bundle"

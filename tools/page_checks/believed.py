@@ -19,7 +19,8 @@ STATEMENTS = (
     "text_show/specs/Shows",
     "c_interface/specs/Exported",
 )
-USE = re.compile(r"^(?:pub )?use Rattle·([a-z_]+)(?:·[a-z]+)?\.(\S+?)(?:\.\{([^}]*)\}| as (\S+))?$", re.M)
+USE = re.compile(r"^(?:pub )?use Rattle\.([a-z_]+)\.(\S+?)(?:\.\{([^}]*)\}| as (\S+))?$", re.M)
+HOLES = "◌"  # where the arguments of an operator go
 DEFINED = re.compile(
     r"^(?: {2,4})?(?:abbrev |unfoldable |pub |data |record )*([^\s(){}:;]+(?:,? [^\s(){}:;]+)*)(?: [({].*)? :(?: |$)", re.M
 )
@@ -41,9 +42,9 @@ class File:
 
 
 def module_path(crates: Path, crate: str, dotted: str) -> str | None:
-    """The file of a module, below crates/ and without its suffix; none for a type that code declares."""
+    """The file of a module, below crates/ and without its suffix; none for a library's, or for a type that code declares."""
     parts = dotted.split(".")
-    if "declared" in parts:
+    if "declared" in parts or not (crates / crate).is_dir():
         return None
     for size in range(len(parts), 0, -1):
         path = "/".join([crate, *parts[:size]])
@@ -69,13 +70,13 @@ def read_file(crates: Path, name: str) -> File:
         if target is None:
             continue
         for one in (names or "").split(","):
-            made.imports[one.strip().strip("_")] = (target, one.strip().strip("_"))
+            made.imports[one.strip().strip(HOLES)] = (target, one.strip().strip(HOLES))
         if alias:
             made.whole[alias] = target
     body = re.sub(r"^(?:pub )?use .*$", "", re.sub(r"--.*", "", text), flags=re.M)
     for piece in re.split(r"\n(?:[ \t]*\n)+", body):
         if piece.strip():
-            defined = {one.strip("_") for names in DEFINED.findall(piece) + TYPE.findall(piece) for one in several(names)}
+            defined = {one.strip(HOLES) for names in DEFINED.findall(piece) + TYPE.findall(piece) for one in several(names)}
             for one in sorted(defined):
                 made.pieces.setdefault(one, []).append(len(made.texts))
             if not defined:
@@ -118,8 +119,8 @@ def found_at(file: File, name: str, word: str, opened: Callable[[str], File]) ->
     head, _, rest = word.partition(".")
     found = []
     if head in file.whole and rest:
-        found += [(file.whole[head], at) for at in opened(file.whole[head]).pieces.get(rest.strip("_«»"), [])]
-    for one in sorted({word, word.strip("_"), head}):
+        found += [(file.whole[head], at) for at in opened(file.whole[head]).pieces.get(rest.strip(HOLES + "«»"), [])]
+    for one in sorted({word, word.strip(HOLES), head}):
         found += [(name, at) for at in file.pieces.get(one, [])]
         if one in file.imports:
             module, wanted = file.imports[one]

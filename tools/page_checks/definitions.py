@@ -1,7 +1,8 @@
 """The numbers of store, record, sheet and runs, read off the definitions, the code and the header.
 
-Each number has a name, as `store.block-bytes`. Where two files have it, both must say the same. A number that can no longer be found is an
-error: then the definition was written anew, and what is read off it here must be too.
+Each number has a name, as `store.block-bytes`. Behind the dot stands the definition's name where it has one, as in `refusal.too_many`. Where
+two files have a number, both must say the same. A number that can no longer be found is an error: then the definition was written anew,
+and what is read off it here must be too.
 """
 
 import re
@@ -21,17 +22,17 @@ NAMED: tuple[tuple[str, str, str, dict[str, str]], ...] = (
         REFUSALS,
         REFUSALS_CODE,
         {
-            "wrong-length": "LENGTH",
-            "wrong-block-number": "BLOCK_NUMBER",
-            "wrong-check": "CHECK",
-            "wrong-word-count": "WORD_COUNT",
-            "out-of-range": "RANGE",
-            "wrong-reference": "REFERENCE",
-            "wrong-type": "TYPE",
-            "exit-named-twice": "EXIT_TWICE",
-            "too-many": "LIMIT",
-            "too-few-words": "LENT",
-            "figure-too-large": "FIGURE",
+            "wrong_length": "LENGTH",
+            "wrong_block_number": "BLOCK_NUMBER",
+            "wrong_check": "CHECK",
+            "wrong_word_count": "WORD_COUNT",
+            "out_of_range": "RANGE",
+            "wrong_reference": "REFERENCE",
+            "wrong_type": "TYPE",
+            "exit_named_twice": "EXIT_TWICE",
+            "too_many": "LIMIT",
+            "too_few_words": "LENT",
+            "figure_too_large": "FIGURE",
         },
     ),
     (
@@ -39,12 +40,12 @@ NAMED: tuple[tuple[str, str, str, dict[str, str]], ...] = (
         READ,
         KINDS_CODE,
         {
-            "terminator-unreachable": "UNREACHABLE",
-            "terminator-return": "RETURN",
-            "terminator-exit": "EXIT_INVOCATION",
-            "terminator-branch": "BRANCH",
-            "terminator-bool": "SELECT_BOOLEAN",
-            "terminator-number": "SELECT_NUMBER",
+            "terminator_unreachable": "UNREACHABLE",
+            "terminator_return": "RETURN",
+            "terminator_exit": "EXIT_INVOCATION",
+            "terminator_branch": "BRANCH",
+            "terminator_bool": "SELECT_BOOLEAN",
+            "terminator_number": "SELECT_NUMBER",
         },
     ),
     (
@@ -52,12 +53,12 @@ NAMED: tuple[tuple[str, str, str, dict[str, str]], ...] = (
         GRAPH,
         SHEET_CODE,
         {
-            "const-kind": "CONSTANT",
-            "input-kind": "INPUT",
-            "instr-kind": "INSTRUCTION",
-            "output-kind": "NODE_OUTPUT",
-            "bool-kind": "BOOLEAN",
-            "undef-kind": "UNDEFINED",
+            "const_kind": "CONSTANT",
+            "input_kind": "INPUT",
+            "instr_kind": "INSTRUCTION",
+            "output_kind": "NODE_OUTPUT",
+            "bool_kind": "BOOLEAN",
+            "undef_kind": "UNDEFINED",
         },
     ),
     (
@@ -65,54 +66,54 @@ NAMED: tuple[tuple[str, str, str, dict[str, str]], ...] = (
         NUMBERS,
         SHEET_CODE,
         {
-            "outcome-untouched": "UNTOUCHED",
-            "outcome-whole": "WHOLE",
-            "outcome-closed": "CLOSED",
-            "outcome-leftover": "LEFTOVER",
-            "lead-region": "LINE_REGION",
-            "lead-block": "LINE_BLOCK",
-            "lead-select": "LINE_SELECT",
-            "lead-loop": "LINE_LOOP",
-            "lead-exit": "LINE_EXIT",
-            "lead-defer": "LINE_DEFER",
-            "kind-bool": "ON_BOOLEAN",
-            "kind-num": "ON_NUMBER",
-            "letter-t": "ALWAYS",
-            "letter-f": "NEVER",
-            "letter-u": "ANY",
-            "letter-m": "MERGED",
-            "return-word": "TO_RETURN",
+            "outcome_untouched": "UNTOUCHED",
+            "outcome_whole": "WHOLE",
+            "outcome_closed": "CLOSED",
+            "outcome_leftover": "LEFTOVER",
+            "lead_region": "LINE_REGION",
+            "lead_block": "LINE_BLOCK",
+            "lead_select": "LINE_SELECT",
+            "lead_loop": "LINE_LOOP",
+            "lead_exit": "LINE_EXIT",
+            "lead_defer": "LINE_DEFER",
+            "kind_bool": "ON_BOOLEAN",
+            "kind_num": "ON_NUMBER",
+            "letter_t": "ALWAYS",
+            "letter_f": "NEVER",
+            "letter_u": "ANY",
+            "letter_m": "MERGED",
+            "return_word": "TO_RETURN",
         },
     ),
 )
 
 # Numbers that stand in a definition without a name: their names here, the file, where they stand, and the header's names for them.
 BARE: tuple[tuple[tuple[str, ...], str, str, tuple[str, ...]], ...] = (
-    (("store.byte",), STORE, r"^pair s at = getD s at 0 \+ (\d+) \* getD s \(at \+ 1\) 0$", ("",)),
-    (("store.block-bytes",), STORE, r"^number-right s b = eqb \(pair s \((\d+) \* b\)\) b$", ("BLOCK_BYTES",)),
-    (("store.check-at",), STORE, r"^check-right s b = eqb \(pair s \(512 \* b \+ (\d+)\)", ("",)),
-    (("store.check-high-at",), STORE, r"^check-right .* \+ 65536 \* pair s \(512 \* b \+ (\d+)\)\)", ("",)),
-    (("store.checked",), STORE, r"^check-right .* \(weighted s \(512 \* b\) (\d+)\)$", ("",)),
-    (("store.place-more",), STORE, r"^weighted .* \+ getD s \(at \+ n\) 0 \* \(n \+ (\d+)\)$", ("",)),
+    (("store.byte",), STORE, r"^pair s at = get_or s at 0 \+ (\d+) \* get_or s \(at \+ 1\) 0$", ("",)),
+    (("store.block-bytes",), STORE, r"^number_right s b = eqb \(pair s \((\d+) \* b\)\) b$", ("BLOCK_BYTES",)),
+    (("store.check-at",), STORE, r"^check_right s b = eqb \(pair s \(512 \* b \+ (\d+)\)", ("",)),
+    (("store.check-high-at",), STORE, r"^check_right .* \+ 65536 \* pair s \(512 \* b \+ (\d+)\)\)", ("",)),
+    (("store.checked",), STORE, r"^check_right .* \(weighted s \(512 \* b\) (\d+)\)$", ("",)),
+    (("store.place-more",), STORE, r"^weighted .* \+ get_or s \(at \+ n\) 0 \* \(n \+ (\d+)\)$", ("",)),
     (
         ("store.block-words", "store.payload-at", "store.word-bytes"),
         STORE,
-        r"^word-at s j = pair s \(512 \* \(j / (\d+)\) \+ (\d+) \+ (\d+) \* \(j % 253\)\)$",
+        r"^word_at s j = pair s \(512 \* \(j / (\d+)\) \+ (\d+) \+ (\d+) \* \(j % 253\)\)$",
         ("BLOCK_WORDS", "", ""),
     ),
     (
         ("store.no-bytes", "store.most-bytes"),
         STORE,
-        r"^length-right n = ltb (\d+) n && \(leb n (\d+) && eqb \(n % 512\) 0\)$",
+        r"^length_right n = ltb (\d+) n && \(leb n (\d+) && eqb \(n % 512\) 0\)$",
         ("", "MOST_BYTES"),
     ),
-    (("store.block-words",), STORE, r"^blocks-for w = \(w \+ 252\) / (\d+)$", ("BLOCK_WORDS",)),
-    (("record.no-words",), STORE, r"^count-right s n w = ltb (\d+) w && \(eqb n \(blocks-for w\)", ("",)),
-    (("store.behind",), STORE, r"^all-zero .* eqb \(word-at s \(j \+ n\)\) (\d+)$", ("",)),
-    (("record.w",), STORE, r"accepted \(tabulate \(word-at s (\d+)\) \(word-at s\)\)$", ("",)),
-    (("refusal.no-word",), STORE, r"refused wrong-length (\d+)$", ("",)),
-    (("kind.no-region",), GRAPH, r"^code-of \(const i\) = record \{ kind = const-kind; region = (\d+);", ("",)),
-    (("output-type.none",), REFERENCES, r"^no-instr = record \{ opcode = 0; type = (\d+);", ("",)),
+    (("store.block-words",), STORE, r"^blocks_for w = \(w \+ 252\) / (\d+)$", ("BLOCK_WORDS",)),
+    (("record.no-words",), STORE, r"^count_right s n w = ltb (\d+) w && \(eqb n \(blocks_for w\)", ("",)),
+    (("store.behind",), STORE, r"^all_zero .* eqb \(word_at s \(j \+ n\)\) (\d+)$", ("",)),
+    (("record.w",), STORE, r"accepted \(tabulate \(word_at s (\d+)\) \(word_at s\)\)$", ("",)),
+    (("refusal.no-word",), STORE, r"refused wrong_length (\d+)$", ("",)),
+    (("kind.no-region",), GRAPH, r"^code_of \(const i\) = record \{ kind = const_kind; region = (\d+);", ("",)),
+    (("output-type.none",), REFERENCES, r"^no_instr = record \{ opcode = 0; type = (\d+);", ("",)),
     (("regions.least", "regions.most"), READ, r"^  n ← within (\d+) (\d+)$", ("", "MOST_REGIONS")),
     (("constants.least", "constants.most"), READ, r"^  constants ← counted (\d+) (\d+) type$", ("", "MOST_CONSTANTS")),
     (("type.least", "type.most"), READ, r"^type = within (\d+) (\d+)$", ("", "MOST_TYPE")),
@@ -120,34 +121,34 @@ BARE: tuple[tuple[tuple[str, ...], str, str, tuple[str, ...]], ...] = (
     (("blocks.least", "blocks.most"), READ, r"^  blocks ← counted (\d+) (\d+) block$", ("", "MOST_REGION_BLOCKS")),
     (("instructions.least", "instructions.most"), READ, r"^block = counted (\d+) (\d+) instruction$", ("", "MOST_INSTRUCTIONS")),
     (("output-type.least", "output-type.most"), READ, r"^  type ← within (\d+) (\d+)$", ("", "MOST_TYPE")),
-    (("reads.least", "reads.most"), READ, r"^  reads ← counted (\d+) (\d+) read-value$", ("", "MOST_READS")),
+    (("reads.least", "reads.most"), READ, r"^  reads ← counted (\d+) (\d+) read_value$", ("", "MOST_READS")),
     (("limit.least", "limit.most"), READ, r"^  limit ← within (\d+) (\d+)$", ("", "MOST_LIMIT")),
-    (("passed.least", "passed.most"), READ, r"^  passes ← many .* \(counted (\d+) (\d+) read-value\)$", ("", "MOST_INPUTS")),
+    (("passed.least", "passed.most"), READ, r"^  passes ← many .* \(counted (\d+) (\d+) read_value\)$", ("", "MOST_INPUTS")),
     (("exits.least", "exits.most"), READ, r"^  exits ← counted (\d+) (\d+) word$", ("", "MOST_EXITS")),
-    (("undefined.least", "undefined.most"), READ, r"^index-right .* \(leb (\d+) i && leb i (\d+)\) true$", ("", "MOST_TYPE")),
-    (("type.boolean",), REFERENCES, r"^  test-right bool-cond v = of-type (\d+) v$", ("TYPE_BOOLEAN",)),
-    (("sheet.most-figure",), SHEET, r"^figure-fits s = elim \(leb \(s \.figure\) (\d+)\)", ("MOST_FIGURE",)),
-    (("sheet.no-figure",), SHEET, r"figure = elim \(x \.outcome\) \[ .* leftover ↦ (\d+) \];$", ("",)),
-    (("sheet.usual-lent",), SHEET, r"^printed store = answer-text \(answer store (\d+)\)$", ("USUAL_LENT",)),
+    (("undefined.least", "undefined.most"), READ, r"^index_right .* \(leb (\d+) i && leb i (\d+)\) true$", ("", "MOST_TYPE")),
+    (("type.boolean",), REFERENCES, r"^  test_right bool_cond v = of_type (\d+) v$", ("TYPE_BOOLEAN",)),
+    (("sheet.most-figure",), SHEET, r"^figure_fits s = elim \(leb s\.figure (\d+)\)", ("MOST_FIGURE",)),
+    (("sheet.no-figure",), SHEET, r"figure = elim x\.outcome \[ .* leftover ↦ (\d+) \];$", ("",)),
+    (("sheet.usual-lent",), SHEET, r"^printed store = answer_text \(answer store (\d+)\)$", ("USUAL_LENT",)),
     (("run.words",), RUNS, r"^word32 n = word \(n % (\d+)\)$", ("",)),
     (("run.true", "run.false"), LISTS, r"^bit b = pick b (\d+) (\d+)$", ("", "")),
-    (("run.place-false",), RUNS, r"^place-taken bool-cond zero n = (\d+)$", ("",)),
-    (("run.place-true",), RUNS, r"^place-taken bool-cond \(suc w\) n = (\d+)$", ("",)),
+    (("run.place-false",), RUNS, r"^place_taken bool_cond zero n = (\d+)$", ("",)),
+    (("run.place-true",), RUNS, r"^place_taken bool_cond \(suc w\) n = (\d+)$", ("",)),
 )
 # How many values and targets a terminator has: a function of its number.
-BY_TERMINATOR = "fewest-values", "most-values", "fewest-targets", "most-targets"
-TOKEN = re.compile(r"\(|\)|\|\||[\w-]+")
+BY_TERMINATOR = "fewest_values", "most_values", "fewest_targets", "most_targets"
+TOKEN = re.compile(r"\(|\)|\|\||\w+")
 
 
 def antt_constants(text: str) -> dict[str, int]:
     """The constants of a file of definitions."""
-    return {name: int(number) for name, number in re.findall(r"^([a-z][a-z0-9-]*) = (\d+)$", text, re.M)}
+    return {name: int(number) for name, number in re.findall(r"^([a-z][a-z0-9_]*) = (\d+)$", text, re.M)}
 
 
 def code_constants(text: str) -> dict[str, int]:
-    """The constants of a file of code, by the definition's way to write a name."""
+    """The constants of a file of code, under the definition's names, which have small letters."""
     found = re.findall(r"^pub const ([A-Z_]+): u\d+ = (\d+);$", text, re.M)
-    return {name.lower().replace("_", "-"): int(number) for name, number in found}
+    return {name.lower(): int(number) for name, number in found}
 
 
 def header_constants(text: str) -> dict[str, int]:
@@ -265,7 +266,7 @@ class Definitions:
         """A number as a page writes it; `values.X` and `targets.X` are how many a terminator has, as `1` or `0 to 4`."""
         what, _, kind = name.partition(".")
         if what in ("values", "targets"):
-            least, most = self.numbers[f"fewest-{what}.{kind}"], self.numbers[f"most-{what}.{kind}"]
+            least, most = self.numbers[f"fewest_{what}.{kind}"], self.numbers[f"most_{what}.{kind}"]
             return str(least) if least == most else f"{least} to {most}"
         return f"{self.numbers[name]:,}"
 

@@ -53,67 +53,67 @@ CLAIMS: dict[str, tuple[str, ...]] = {
         "| its type | {output-type.least} | {output-type.most} | the type of its output; {output-type.none} if it has none |",
         "| its read count | {reads.least} | {reads.most} |",
         "| turn limit | {limit.least} | {limit.most} |",
-        "| terminator | {terminator.terminator-unreachable} | {terminator.terminator-number} |",
-        "this word is there for terminator {terminator.terminator-exit} alone",
+        "| terminator | {terminator.terminator_unreachable} | {terminator.terminator_number} |",
+        "this word is there for terminator {terminator.terminator_exit} alone",
         "| targets | {region.least} |",
         "| for each different target: input count | {passed.least} | {passed.most} |",
         "| exit count | {exits.least} | {exits.most} |",
         "| exit list | {region.least} |",
-        "| {terminator.terminator-unreachable} | unreachable | no | {values.terminator-unreachable} | {targets.terminator-unreachable} |",
-        "| {terminator.terminator-return} | return | no | {values.terminator-return} | {targets.terminator-return} |",
-        "| {terminator.terminator-exit} | exit | yes | {values.terminator-exit} | {targets.terminator-exit} |",
-        "| {terminator.terminator-branch} | branch | no | {values.terminator-branch} | {targets.terminator-branch} |",
-        "| {terminator.terminator-bool} | select on a boolean | no | {values.terminator-bool} | {targets.terminator-bool} |",
-        "| {terminator.terminator-number} | select on a number | no | {values.terminator-number} | {targets.terminator-number} |",
+        "| {terminator.terminator_unreachable} | unreachable | no | {values.terminator_unreachable} | {targets.terminator_unreachable} |",
+        "| {terminator.terminator_return} | return | no | {values.terminator_return} | {targets.terminator_return} |",
+        "| {terminator.terminator_exit} | exit | yes | {values.terminator_exit} | {targets.terminator_exit} |",
+        "| {terminator.terminator_branch} | branch | no | {values.terminator_branch} | {targets.terminator_branch} |",
+        "| {terminator.terminator_bool} | select on a boolean | no | {values.terminator_bool} | {targets.terminator_bool} |",
+        "| {terminator.terminator_number} | select on a number | no | {values.terminator_number} | {targets.terminator_number} |",
         "true takes place {run.place-true}, false place {run.place-false}",
         "They have {store.bits} bits in a record and {run.bits} bits on a sheet.",
-        "| {kind.const-kind} | a constant | {kind.no-region} |",
-        "| {kind.input-kind} | an input of a region |",
-        "| {kind.instr-kind} | the output of an instruction |",
-        "| {kind.output-kind} | an output of a node: on a sheet alone |",
-        "| {kind.bool-kind} | a boolean | {kind.no-region} | {run.false} for false, {run.true} for true |",
-        "| {kind.undef-kind} | an undefined value | {kind.no-region} | its type, {undefined.least} to {undefined.most} |",
-        "| entry, target, exit list | a region below n | refusal {refusal.wrong-reference} |",
-        "an input of this region | refusal {refusal.wrong-reference} |",
-        "that comes earlier and has one | refusal {refusal.wrong-reference} |",
-        "each of the input's type | refusal {refusal.wrong-type} |",
-        "the value that terminator {terminator.terminator-bool} tests | one of type {type.boolean};"
-        " terminator {terminator.terminator-number} tests a value of any type | refusal {refusal.wrong-type} |",
-        "| kinds {kind.const-kind}, {kind.bool-kind} and {kind.undef-kind} | {kind.no-region} for the region;"
-        " for kind {kind.bool-kind} an index of {run.false} or {run.true} | refusal {refusal.wrong-reference} |",
-        "| kind {kind.undef-kind} | an index of {undefined.least} to {undefined.most};"
-        " kind {kind.output-kind} may not stand in a record | refusal {refusal.out-of-range} |",
-        "| values of terminator {terminator.terminator-return} | in all regions that return as many, of the same types"
-        " | refusal {refusal.wrong-type} |",
+        "| {kind.const_kind} | a constant | {kind.no-region} |",
+        "| {kind.input_kind} | an input of a region |",
+        "| {kind.instr_kind} | the output of an instruction |",
+        "| {kind.output_kind} | an output of a node: on a sheet alone |",
+        "| {kind.bool_kind} | a boolean | {kind.no-region} | {run.false} for false, {run.true} for true |",
+        "| {kind.undef_kind} | an undefined value | {kind.no-region} | its type, {undefined.least} to {undefined.most} |",
+        "| entry, target, exit list | a region below n | refusal {refusal.wrong_reference} |",
+        "an input of this region | refusal {refusal.wrong_reference} |",
+        "that comes earlier and has one | refusal {refusal.wrong_reference} |",
+        "each of the input's type | refusal {refusal.wrong_type} |",
+        "the value that terminator {terminator.terminator_bool} tests | one of type {type.boolean};"
+        " terminator {terminator.terminator_number} tests a value of any type | refusal {refusal.wrong_type} |",
+        "| kinds {kind.const_kind}, {kind.bool_kind} and {kind.undef_kind} | {kind.no-region} for the region;"
+        " for kind {kind.bool_kind} an index of {run.false} or {run.true} | refusal {refusal.wrong_reference} |",
+        "| kind {kind.undef_kind} | an index of {undefined.least} to {undefined.most};"
+        " kind {kind.output_kind} may not stand in a record | refusal {refusal.out_of_range} |",
+        "| values of terminator {terminator.terminator_return} | in all regions that return as many, of the same types"
+        " | refusal {refusal.wrong_type} |",
         "A sheet is words of {run.bits} bits.",
         "The first {sheet.head} words are the first printed line",
-        "| {sheet.outcome-untouched} | `untouched` | none: {sheet.no-figure}, printed",
-        "| {sheet.outcome-whole} | `whole` |",
-        "| {sheet.outcome-closed} | `closed` |",
-        "| {sheet.outcome-leftover} | `leftover` | none: {sheet.no-figure}, printed",
-        "| {sheet.lead-region} | `region` |",
-        "| {sheet.lead-block} | `block` |",
-        "| {sheet.lead-select} | `select` | node; {sheet.kind-bool} for `bool` or {sheet.kind-num} for `num`;",
-        "| {sheet.lead-loop} | `loop` |",
-        "| {sheet.lead-exit} | `exit` |",
-        "| {sheet.lead-defer} | `defer` | region; target, {sheet.return-word} for return;",
-        "| {sheet.letter-t} | `t` | always |",
-        "| {sheet.letter-f} | `f` | never |",
-        "| {sheet.letter-u} | `u` | either will do |",
-        "| {sheet.letter-m} | `m3[t,f]` | as the case says that node {example.node} took |",
-        "| {refusal.wrong-length} | the length of the store | {refusal.no-word} |",
-        "| {refusal.wrong-block-number} | the number of a block | the block |",
-        "| {refusal.wrong-check} | the check of a block | the block |",
-        "| {refusal.wrong-word-count} | W, the number of blocks, a word behind W, or where the record ends | {refusal.no-word} |",
-        "| {refusal.out-of-range} | a word that counts, or a type, a kind or a limit, is below its least or above its most"
+        "| {sheet.outcome_untouched} | `untouched` | none: {sheet.no-figure}, printed",
+        "| {sheet.outcome_whole} | `whole` |",
+        "| {sheet.outcome_closed} | `closed` |",
+        "| {sheet.outcome_leftover} | `leftover` | none: {sheet.no-figure}, printed",
+        "| {sheet.lead_region} | `region` |",
+        "| {sheet.lead_block} | `block` |",
+        "| {sheet.lead_select} | `select` | node; {sheet.kind_bool} for `bool` or {sheet.kind_num} for `num`;",
+        "| {sheet.lead_loop} | `loop` |",
+        "| {sheet.lead_exit} | `exit` |",
+        "| {sheet.lead_defer} | `defer` | region; target, {sheet.return_word} for return;",
+        "| {sheet.letter_t} | `t` | always |",
+        "| {sheet.letter_f} | `f` | never |",
+        "| {sheet.letter_u} | `u` | either will do |",
+        "| {sheet.letter_m} | `m3[t,f]` | as the case says that node {example.node} took |",
+        "| {refusal.wrong_length} | the length of the store | {refusal.no-word} |",
+        "| {refusal.wrong_block_number} | the number of a block | the block |",
+        "| {refusal.wrong_check} | the check of a block | the block |",
+        "| {refusal.wrong_word_count} | W, the number of blocks, a word behind W, or where the record ends | {refusal.no-word} |",
+        "| {refusal.out_of_range} | a word that counts, or a type, a kind or a limit, is below its least or above its most"
         " | the region; also {refusal.no-word} in front of the regions |",
-        "| {refusal.wrong-reference} | something is named that may not be | the region; {refusal.no-word} for the entry |",
-        "| {refusal.wrong-type} | a type, or how many values there are | the region; of two that return the later |",
-        "| {refusal.exit-named-twice} | a region stands twice on one exit list | the region |",
-        "| {refusal.too-many} | nesting would define too much | {refusal.no-word} |",
-        "| {refusal.too-few-words} | the sheet has more words than were lent; the program `nest` lends {sheet.usual-lent}"
+        "| {refusal.wrong_reference} | something is named that may not be | the region; {refusal.no-word} for the entry |",
+        "| {refusal.wrong_type} | a type, or how many values there are | the region; of two that return the later |",
+        "| {refusal.exit_named_twice} | a region stands twice on one exit list | the region |",
+        "| {refusal.too_many} | nesting would define too much | {refusal.no-word} |",
+        "| {refusal.too_few_words} | the sheet has more words than were lent; the program `nest` lends {sheet.usual-lent}"
         " | {refusal.no-word} |",
-        "| {refusal.figure-too-large} | the figure is above {sheet.most-figure} | {refusal.no-word} |",
+        "| {refusal.figure_too_large} | the figure is above {sheet.most-figure} | {refusal.no-word} |",
     ),
     PLAYER: (
         "A word has {run.bits} bits. True is {run.true} and false is {run.false}.",
@@ -164,7 +164,7 @@ def names(root: Path) -> dict[str, str]:
     """What each name of a claim stands for, as it is written on a page."""
     found = Definitions(root)
     shown = {name: found.shown(name) for name in found.numbers}
-    for kind in (name.removeprefix("fewest-values.") for name in found.numbers if name.startswith("fewest-values.")):
+    for kind in (name.removeprefix("fewest_values.") for name in found.numbers if name.startswith("fewest_values.")):
         shown |= {f"{what}.{kind}": found.shown(f"{what}.{kind}") for what in ("values", "targets")}
     # The first byte, the least word, no cost; and a step on the page itself.
     shown |= {"store.number-at": "0", "region.least": "0", "run.no-cost": "0", "loop.body-step": "2"}
@@ -213,7 +213,7 @@ def check(page: str, text: str, claims: tuple[str, ...], shown: dict[str, str], 
 def check_ends(root: Path, text: str) -> list[Wrong]:
     """What is no end: the page must have the definition's names, all of them and no others."""
     part = text.partition("| No end |")[2].partition("\n\n")[0]
-    ours, found = Definitions(root).no_ends(), re.findall(r"^\| `([\w-]+)` \|", part, re.M)
+    ours, found = Definitions(root).no_ends(), re.findall(r"^\| `(\w+)` \|", part, re.M)
     return [] if sorted(ours) == sorted(found) else [Wrong(PLAYER, 0, f"has {found} for what is no end, and the definition {ours}")]
 
 

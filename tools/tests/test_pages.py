@@ -143,11 +143,11 @@ class Believed(WithFolder):
         """What a statement names is reached, through files; what it does not name is not."""
         self.write(
             "crates/a/specs/Top.antt",
-            "use Rattle·b.specs.Low.{size}\n\nabbrev pub Top : Type 0\nTop = size ≡ 1\n\npub other : Top\nother = refl\n",
+            "use Rattle.b.specs.Low.{size}\n\nabbrev pub Top : Type 0\nTop = size ≡ 1\n\npub other : Top\nother = refl\n",
         )
         self.write(
             "crates/b/specs/Low.antt",
-            "use Rattle·b·specs.specs.Base.{one, two}\n\nabbrev pub size : ℕ\nsize = one\n\nabbrev pub wide : ℕ\nwide = two\n",
+            "use Rattle.b.specs.Base.{one, two}\n\nabbrev pub size : ℕ\nsize = one\n\nabbrev pub wide : ℕ\nwide = two\n",
         )
         self.write("crates/b/specs/Base.antt", "abbrev pub one : ℕ\none = 1\n\nabbrev pub two : ℕ\ntwo = 2\n")
         found = believed.believed(self.folder / "crates", ("a/specs/Top Top",))
@@ -210,7 +210,7 @@ class Numbers(WithFolder):
         """What is no end has the definition's names, all of them."""
         text = (ROOT / numbers.PLAYER).read_text(encoding="utf-8")
         self.assertEqual(numbers.check_ends(ROOT, text), [])
-        for changed in (text.replace("| `ran-off` |", "| `ran-out` |"), re.sub(r"\| `no-case` \|.*\n", "", text)):
+        for changed in (text.replace("| `ran_off` |", "| `ran_out` |"), re.sub(r"\| `no_case` \|.*\n", "", text)):
             self.assertEqual(len(numbers.check_ends(ROOT, changed)), 1)
 
     def test_crates(self) -> None:
@@ -244,14 +244,14 @@ class Definitions(WithFolder):
     def test_differ(self) -> None:
         """A number that one file has changed is found, and one that can no longer be read."""
         for file, old, new in (
-            (definitions.NUMBERS, "lead-loop = 3", "lead-loop = 6"),
+            (definitions.NUMBERS, "lead_loop = 3", "lead_loop = 6"),
             (definitions.SHEET_CODE, "LEAD_LOOP: u32 = 3", "LEAD_LOOP: u32 = 6"),
             (definitions.HEADER, "RUKVETTA_LINE_LOOP = 3", "RUKVETTA_LINE_LOOP = 6"),
-            (definitions.REFUSALS, "too-many = 9", "too-many = 13"),
+            (definitions.REFUSALS, "too_many = 9", "too_many = 13"),
             (definitions.REFUSALS_CODE, "TOO_MANY: u16 = 9", "TOO_MANY: u16 = 13"),
-            (definitions.GRAPH, "undef-kind = 5", "undef-kind = 8"),
+            (definitions.GRAPH, "undef_kind = 5", "undef_kind = 8"),
             (definitions.READ, "  n ← within 1 32", "  n ← within 1 33"),
-            (definitions.READ, "terminator-exit = 2", "terminator-exit = 7"),
+            (definitions.READ, "terminator_exit = 2", "terminator_exit = 7"),
             (definitions.STORE, "leb n 8192", "leb n 4096"),
             (definitions.SHEET, "answer store 16384", "answer store 16383"),
             (definitions.READ, "limit ← within 1 65535", "limit ← bounded 1 65535"),
@@ -265,12 +265,12 @@ class Definitions(WithFolder):
     def test_changed(self) -> None:
         """Numbers that one file alone has are the file's: what a terminator has, what a run does."""
         self.edit(
-            definitions.READ, "fewest-values k = pick (leb terminator-bool k) 1 0", "fewest-values k = pick (leb terminator-bool k) 2 0"
+            definitions.READ, "fewest_values k = pick (leb terminator_bool k) 1 0", "fewest_values k = pick (leb terminator_bool k) 2 0"
         )
-        self.edit(definitions.RUNS, "place-taken bool-cond zero n = 1", "place-taken bool-cond zero n = 0")
+        self.edit(definitions.RUNS, "place_taken bool_cond zero n = 1", "place_taken bool_cond zero n = 0")
         found = definitions.Definitions(self.folder)
-        self.assertEqual((found.shown("values.terminator-bool"), found.numbers["run.place-false"]), ("2 to 1", 0))
-        self.assertEqual(found.shown("targets.terminator-number"), "1 to 8")
+        self.assertEqual((found.shown("values.terminator_bool"), found.numbers["run.place-false"]), ("2 to 1", 0))
+        self.assertEqual(found.shown("targets.terminator_number"), "1 to 8")
 
 
 class Examples(WithFolder):
