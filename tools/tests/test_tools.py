@@ -142,7 +142,7 @@ class Compute(unittest.TestCase):
         self.assertIn('printed (hex "00") ≡ (ascii "refused 1 0\\n")', compute.sheet_equation("v0", "00", ["refused 1 0"]))
         self.assertIn("without-twice", compute.sheet_equation("v0", "00", ["whole figure 0 attempts 1"]))
         runs = compute.runs_equation("v0", "00", ["given 1,2 - 3 4 5 6", "graph none", "nested none"])
-        self.assertIn("(given-words (1 ∷ 2 ∷ []) ([]) 3 4 5 6)", runs)
+        self.assertIn("(given_words (1 ∷ 2 ∷ []) ([]) 3 4 5 6)", runs)
 
 
 class Status(unittest.TestCase):
