@@ -1,7 +1,7 @@
 #!/usr/bin/env python3
 """Brings this repository's own definitions and lemmas to snake case, once, after the toolchain's own script.
 
-usage: tools/port_names.py    at the top of the repository
+usage: python3 tools/port_names.py [--anyway]    at the top of the repository
 
 In specs/ and in lemma files every name with a dash is respelled, but for a library's. In a function's proof and in the clauses of
 the sources only names that the repository declares are. It stops, with nothing written, where two names would fall together.
@@ -11,17 +11,19 @@ import collections
 import os
 import re
 import sys
+from collections.abc import Iterator
 
 NAME = re.compile(r"(?<![\w'◌\-])([A-Za-zα-ωΑ-Ω_][\w']*(?:-[\w']+)+)(?![\w'◌\-])")
 IMPORT = re.compile(r"\buse\s+([\w.·:+-]+)(?:\.\{([^}]*)\}|\s+as\s+([\w'-]+))", re.S)
 DECLARED = re.compile(
-    r"^\s*(?:abbrev |unfoldable |pub |opaque |mutual |module |record |data |ruleset |where |let )*([A-Za-z_][\w']*(?:-[\w']+)+)\s*:(?!:)", re.M
+    r"^\s*(?:abbrev |unfoldable |pub |opaque |mutual |module |record |data |ruleset |where |let )*([A-Za-z_][\w']*(?:-[\w']+)+)\s*:(?!:)",
+    re.M,
 )
 HEADS = re.compile(r"^\s*(?:pub |abbrev |unfoldable )*(?:record|data|module|ruleset)\s+([A-Za-z_][\w']*(?:-[\w']+)+)", re.M)
 SEVERAL = re.compile(r"^\s*(?:abbrev |unfoldable |pub )*((?:[A-Za-z_][\w']*(?:-[\w']+)*\s+)+[A-Za-z_][\w']*(?:-[\w']+)*)\s*:(?!:)", re.M)
 
 
-def files(*ends):
+def files(*ends: str) -> Iterator[str]:
     for folder, dirs, names in os.walk("crates"):
         dirs[:] = sorted(d for d in dirs if d != "out")
         for name in sorted(names):
@@ -29,21 +31,26 @@ def files(*ends):
                 yield os.path.join(folder, name)
 
 
-def is_lemma_file(path):
+def is_lemma_file(path: str) -> bool:
     """A file of specs/, or one of proofs/ that is no function's."""
     return "/specs/" in path or os.path.basename(path) not in ("Proof.antt", "Answers.antt", "Invariants.antt")
 
 
-def snake(name):
+def snake(name: str) -> str:
     return name.replace("-", "_")
 
 
-def own(module, crates):
+def own(module: str, crates: set[str]) -> bool:
     parts = module.split(".")
-    return len(parts) > 1 and parts[0] == "Rattle" and parts[1] in crates and not module.endswith((".Tie", ".Lts", ".Goals", ".Given", ".Statement"))
+    return (
+        len(parts) > 1
+        and parts[0] == "Rattle"
+        and parts[1] in crates
+        and not module.endswith((".Tie", ".Lts", ".Goals", ".Given", ".Statement"))
+    )
 
 
-def main():
+def main() -> int:
     crates = set(os.listdir("crates"))
     texts = {p: open(p, encoding="utf-8").read() for p in files(".antt", ".rt")}
     declared = set()
@@ -106,4 +113,7 @@ def main():
 
 
 if __name__ == "__main__":
+    if sys.argv[1:] in (["-h"], ["--help"]):
+        print(__doc__.strip())
+        sys.exit(0)
     sys.exit(main())

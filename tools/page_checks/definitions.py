@@ -1,8 +1,8 @@
 """The numbers of store, record, sheet and runs, read off the definitions, the code and the header.
 
-Each number has a name, as `store.block-bytes`. Behind the dot stands the definition's name where it has one, as in `refusal.too_many`. Where
-two files have a number, both must say the same. A number that can no longer be found is an error: then the definition was written anew,
-and what is read off it here must be too.
+Each number has a name, as `store.block-bytes`. Behind the dot stands the definition's name where it has one, as in `refusal.too_many`.
+Where two files have a number, both must say the same. A number that can no longer be found is an error: then the definition was written
+anew, and what is read off it here must be too.
 """
 
 import re
