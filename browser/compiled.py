@@ -2,7 +2,6 @@
 
 from __future__ import annotations
 
-import os
 import pathlib
 import shutil
 import subprocess
@@ -33,10 +32,9 @@ def needed() -> str:
     return program("wasm-ld", "Debian's package lld")
 
 
-def run(*command: str | pathlib.Path, kit: pathlib.Path | None = None) -> str:
-    """What a program prints, started in the repository; its toolchain is another kit, if one is given."""
-    environment = dict(os.environ, RATTLE_HOME=str(kit)) if kit else None
-    done = subprocess.run(command, capture_output=True, text=True, cwd=ROOT, env=environment)
+def run(*command: str | pathlib.Path) -> str:
+    """What a program prints, started in the repository."""
+    done = subprocess.run(command, capture_output=True, text=True, cwd=ROOT)
     if done.returncode:
         raise Failed(f"{pathlib.Path(command[0]).name} failed: {(done.stderr or done.stdout).strip()[-2000:]}")
     return done.stdout.strip()
@@ -45,12 +43,10 @@ def run(*command: str | pathlib.Path, kit: pathlib.Path | None = None) -> str:
 def compiled(work: pathlib.Path) -> bytes:
     """The library as a WebAssembly module, made in a folder."""
     linker = needed()
-    kit, module, linked = work / "kit", work / "module", work / "module.wasm"
-    kit.mkdir()
-    kept = pathlib.Path(run(ROOT / "interface" / "module" / "kit", kit))
-    run("rt", "staticlib", "c_interface", kit=kit)
-    run(ROOT / "interface" / "module" / "compile", kept / "module.bc", "wasm32", "O2", module)
+    compiled, linked = work / "compiled", work / "module.wasm"
+    run(ROOT / "interface" / "module" / "keep", ROOT / "crates" / "c_interface", work)
+    run(ROOT / "interface" / "module" / "compile", work / "module.bc", "wasm32", "O2", compiled)
     exports = [f"--export={name}" for name in EXPORTED]
     layout = "--no-entry", "--strip-all", "--gc-sections", "--stack-first", "-z", f"stack-size={STACK_BYTES}"
-    run(linker, module.with_suffix(".o"), *layout, *exports, "-o", linked)
+    run(linker, compiled.with_suffix(".o"), *layout, *exports, "-o", linked)
     return linked.read_bytes()

@@ -20,15 +20,9 @@ class Edit(unittest.TestCase):
     def test_reached(self) -> None:
         """A crate, and all that it stands on; libraries of the toolchain are none of these."""
         edit = script(FOLDER / "edit")
-        listed = edit.dependencies("# a: comment\na:\nb: a io\nc: b # more\nd: a\n")
+        listed = edit.dependencies("# a: comment\na:\nb: a io\nc staticlib: b # more\nd: a\n")
         self.assertEqual(listed, {"a": [], "b": ["a", "io"], "c": ["b"], "d": ["a"]})
         self.assertEqual(edit.reached("c", listed), ["c", "b", "a"])
-
-    def test_first_error(self) -> None:
-        """The first error with its own lines, and no other."""
-        log = "note: a\nfile:1:2: error: this\n  more of this\nfile:3:4: error: that\n  more\nlogic=not-proved\n"
-        self.assertEqual(script(FOLDER / "edit").first_error(log), ["file:1:2: error: this", "  more of this"])
-        self.assertEqual(script(FOLDER / "edit").first_error("logic=proved\n"), [])
 
     def test_no_such_edit(self) -> None:
         """An edit that is not there is refused with status 2."""

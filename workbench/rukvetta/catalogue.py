@@ -47,7 +47,7 @@ class Job:
 
     folder: str
     path: str  # within the folder
-    programs: str
+    programs: str | None
 
     def name(self) -> str:
         return escaped(os.path.splitext(self.path)[0])

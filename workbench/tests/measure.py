@@ -15,7 +15,7 @@ from collections.abc import Iterator
 from dataclasses import dataclass
 
 from .random_records import damaged_store, random_store
-from .support import CATALOGUE, ROOT, programs, put
+from .support import BUILT_BY, CATALOGUE, ROOT, programs, put
 
 from rukvetta.assemble import assemble
 from rukvetta.needs import MISSING, USAGE
@@ -84,7 +84,7 @@ def main() -> None:
         print("usage: /usr/bin/python3 -m tests.measure NUMBER... or routines, in the folder of the workbench", file=sys.stderr)
         raise SystemExit(USAGE)
     if not (programs.has("nest") and programs.has("show")):
-        print(f"There is no nest or no show in {programs.folder}.", file=sys.stderr)
+        print(f"There is no nest or no show: {BUILT_BY['nest']}, {BUILT_BY['show']}.", file=sys.stderr)
         raise SystemExit(MISSING)
     for word in words:
         with tempfile.TemporaryDirectory() as folder:

@@ -1,8 +1,11 @@
 """What the tests share: the programs, the fixed lists, the commands."""
 
+import atexit
 import os
+import shutil
 import subprocess
 import sys
+import tempfile
 import unittest
 from collections.abc import Iterator
 
@@ -11,11 +14,23 @@ WORKBENCH = os.path.join(ROOT, "workbench")
 CATALOGUE = os.path.join(WORKBENCH, "catalogue")
 sys.path.insert(0, WORKBENCH)
 
-from rukvetta.programs import Programs  # noqa: E402 (the path comes first)
+from rukvetta.programs import BUILT_BY, VARIABLE, Programs  # noqa: E402 (the path comes first)
 
-programs = Programs()
-needs_show = unittest.skipUnless(programs.has("show"), f"there is no show in {programs.folder}; `rt check show` builds it")
-needs_nest = unittest.skipUnless(programs.has("nest"), f"there is no nest in {programs.folder}; `rt check nest` builds it")
+
+def one_folder() -> str:
+    """The folder that the environment names, or one with links to the programs that are built."""
+    if os.environ.get(VARIABLE):
+        return os.environ[VARIABLE]
+    folder = tempfile.mkdtemp(prefix="programs.")
+    atexit.register(shutil.rmtree, folder, ignore_errors=True)
+    for name in filter(Programs().has, BUILT_BY):
+        os.symlink(Programs().place(name), os.path.join(folder, name))
+    return folder
+
+
+programs = Programs(one_folder())
+needs_show = unittest.skipUnless(programs.has("show"), f"there is no show; {BUILT_BY['show']}")
+needs_nest = unittest.skipUnless(programs.has("nest"), f"there is no nest; {BUILT_BY['nest']}")
 
 
 def vectors(name: str) -> Iterator[tuple[bytes, str]]:
