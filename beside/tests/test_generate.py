@@ -31,6 +31,12 @@ class Vectors(unittest.TestCase):
             file.flush()
             return list(all_vectors(file.name))
 
+    def test_the_list_of_replay(self) -> None:
+        """crates/replay is run on lists/stores.vectors: its copy is the same, byte for byte."""
+        own, copy = (FOLDER / "lists" / "stores.vectors"), (FOLDER.parent / "crates" / "replay" / "stdin")
+        self.assertFalse(own.is_symlink() or copy.is_symlink())
+        self.assertTrue(own.read_bytes() == copy.read_bytes(), "cp beside/lists/stores.vectors crates/replay/stdin")
+
     def test_round_trip(self) -> None:
         """What was written is read; a vector that is wrong on purpose is passed over by readers."""
         text = vector(b"\1\2", "refused 1 0\n") + vector(b"\3", "refused 2 0\n", "wrong")
