@@ -1,9 +1,9 @@
 """Paths, crates and edits that the pages name: each must be there.
 
 A name is a word with a slash in it, of letters, digits and . _ + - * only, or a word that begins with the prefix of a family of crates and
-stands outside of backquotes. A list in braces stands for each of its parts. A path counts from the repository's root, from crates/, or from
-beside/ or
-the page's own folder or the one above; the suffixes .antt and .rt may be left out, and crate/edit stands for an edit.
+stands outside of backquotes. A list in braces stands for each of its parts. A path counts from the repository's root, from crates/, from
+beside/, or from the page's own folder or the one above. One that begins with ../../ may count from a crate's folder. The suffixes .antt and
+.rt may be left out, and crate/edit stands for an edit.
 """
 
 import re
@@ -16,6 +16,8 @@ CRATE = re.compile(r"(?<![\w/`:.-])(?:state|cfg|sheet|text)_[a-z_]*\b(?![(:])")
 FAMILIES = "state_", "cfg_", "sheet_", "text_"
 # What has a slash and is no path of this repository: made by a command, of the Rust or of a user, or a form of text.
 MADE = "target/", "region.index/", "region.place/", "src/cfg.rs", "spv/", "Rust-GPU/", "../rukvetta/", "laws/paths", "laws/shown"
+# What rt makes in a crate's folder.
+OUT = re.compile(r"crates/\w+/out(/.*)?")
 # A part of a path that stands for any name: CRATE, NAME.edit.
 ANY = re.compile(r"[A-Z]+(\.[a-z]+)?")
 # In crates/, a path may begin at one of these when the text has named the crate.
@@ -61,12 +63,14 @@ def mentions(page: Path) -> list[Mention]:
 
 def is_there(root: Path, page: Path, name: str) -> bool:
     """Whether a name is a path, a crate or an edit."""
-    if name.startswith(MADE) or name[0].isdigit() or name in PARTS or any(ANY.fullmatch(part) for part in name.split("/")[:-1]):
+    if name.startswith(MADE) or OUT.fullmatch(name) or name[0].isdigit() or name in PARTS or any(ANY.fullmatch(part) for part in name.split("/")[:-1]):
         return True
     if "/" not in name:
         return (root / "crates" / name).is_dir()
     bare = name.rstrip("/")
     if ANY.fullmatch(bare.rpartition("/")[2]) and not bare.endswith(".md"):
+        return True
+    if bare.startswith("../../") and (root / bare.removeprefix("../../")).exists():
         return True
     for folder in (root, root / "crates", root / "beside", page.parent, page.parent.parent):
         for suffix in ("", ".antt", ".rt", ".py"):

@@ -130,7 +130,6 @@ CLAIMS: dict[str, tuple[str, ...]] = {
     ),
     README: (
         "`nest` stands on {crates.nest} of all {crates.all} crates",
-        "wc -l) of {crates.nest} crates",
         "**Must-fail edits**: {edits.all} wrong programs",
     ),
 }

@@ -82,6 +82,7 @@ class Names(WithFolder):
             self.missing("store/specs/Layout, crates/store/specs/Layout.antt, store/specs/{Layout}, src/lib.rt, docs/PAGE.md"), []
         )
         self.assertEqual(self.missing("`store/first_word`, text_sheet, text_, target/x, crates/CRATE/must-fail/NAME.edit"), [])
+        self.assertEqual(self.missing("crates/store/out/store, crates/store/out, ../../docs/PAGE.md"), [])
 
     def test_not_there(self) -> None:
         """A file, a part of a list, an edit, a crate and a page that are not there."""
@@ -90,6 +91,7 @@ class Names(WithFolder):
         self.assertEqual(self.missing("`store/last_word`"), ["store/last_word"])
         self.assertEqual(self.missing("sheet_text says"), ["sheet_text"])
         self.assertEqual(self.missing("docs/PAPER.md"), ["docs/PAPER.md"])
+        self.assertEqual(self.missing("../../docs/PAPER.md"), ["../../docs/PAPER.md"])
 
     def test_of_this_repository(self) -> None:
         """All names on the pages are there."""

@@ -134,7 +134,7 @@ class Compute(unittest.TestCase):
         """A sheet's equation has the bytes and the text; without `twice` it is compared without it."""
         compute = script(FOLDER / "compute")
         self.assertIn('printed (hex "00") ≡ (ascii "refused 1 0\\n")', compute.sheet_equation("v0", "00", ["refused 1 0"]))
-        self.assertIn("without-twice", compute.sheet_equation("v0", "00", ["whole figure 0 attempts 1"]))
+        self.assertIn("without_twice", compute.sheet_equation("v0", "00", ["whole figure 0 attempts 1"]))
         runs = compute.runs_equation("v0", "00", ["given 1,2 - 3 4 5 6", "graph none", "nested none"])
         self.assertIn("(given_words (1 ∷ 2 ∷ []) ([]) 3 4 5 6)", runs)
 
