@@ -63,7 +63,13 @@ def mentions(page: Path) -> list[Mention]:
 
 def is_there(root: Path, page: Path, name: str) -> bool:
     """Whether a name is a path, a crate or an edit."""
-    if name.startswith(MADE) or OUT.fullmatch(name) or name[0].isdigit() or name in PARTS or any(ANY.fullmatch(part) for part in name.split("/")[:-1]):
+    if (
+        name.startswith(MADE)
+        or OUT.fullmatch(name)
+        or name[0].isdigit()
+        or name in PARTS
+        or any(ANY.fullmatch(part) for part in name.split("/")[:-1])
+    ):
         return True
     if "/" not in name:
         return (root / "crates" / name).is_dir()
