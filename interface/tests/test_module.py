@@ -1,4 +1,4 @@
-"""interface/module/compile: a module is compiled for each processor, and one that is not for every processor is refused."""
+"""interface/module: a module is compiled for each processor, and one that is not for every processor is refused. A toolchain of links."""
 
 import pathlib
 import shutil
@@ -7,7 +7,7 @@ import tempfile
 import unittest
 
 ROOT = pathlib.Path(__file__).resolve().parents[2]
-COMPILE = ROOT / "interface" / "module" / "compile"
+COMPILE, KEEP, KIT = (ROOT / "interface" / "module" / name for name in ("compile", "keep", "kit"))
 PROCESSORS = "cortex-m3", "cortex-m4", "cortex-m33", "wasm32"
 HEAD = """target datalayout = "e-m:e-p270:32:32-p271:32:32-p272:64:64-i64:64-i128:128-f80:128-n8:16:32:64-S128"
 target triple = "x86_64-unknown-linux-gnu"
@@ -56,6 +56,26 @@ class Compile(unittest.TestCase):
                     status, said, files = self.compiled(text, processor)
                     self.assertEqual((status, "out.o" in files), (1, False))
                     self.assertIn(why, said)
+
+    def test_kit(self) -> None:
+        """All of the toolchain is there, and it answers; clang is ours, and compiles."""
+        with tempfile.TemporaryDirectory() as folder:
+            done = subprocess.run([KIT, folder], capture_output=True, text=True, timeout=60)
+            self.assertEqual((done.returncode, done.stderr, done.stdout), (0, "", f"{pathlib.Path(folder).resolve()}/kit\n"))
+            kit = pathlib.Path(done.stdout.strip())
+            theirs = pathlib.Path(shutil.which("rt") or "").resolve().parents[1]
+            for place in ".", "bin", "toolchain", "toolchain/bin":
+                missing = {file.name for file in (theirs / place).iterdir()} - {file.name for file in (kit / place).iterdir()}
+                self.assertEqual(missing, set(), place)
+            told = [subprocess.run([rt, "version"], capture_output=True, text=True, timeout=60).stdout for rt in ("rt", kit / "bin" / "rt")]
+            self.assertEqual(told[0], told[1])
+            self.assertFalse((kit / "toolchain" / "bin" / "clang").is_symlink())
+
+    def test_nonsense(self) -> None:
+        for words in [KEEP], [KEEP, "/", "/"], [KEEP, "/nowhere", "/"], [KIT], [KIT, "/nowhere"], [COMPILE, "/nowhere"]:
+            with self.subTest(words=words):
+                done = subprocess.run(words, capture_output=True, text=True, timeout=60)
+                self.assertEqual((done.returncode, done.stdout), (2, ""))
 
 
 if __name__ == "__main__":

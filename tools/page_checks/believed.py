@@ -10,6 +10,8 @@ from collections.abc import Callable
 from dataclasses import dataclass, field
 from pathlib import Path
 
+from .listed import listed
+
 # The statements: those of the theorem, and the contracts of the routines that a user calls.
 STATEMENTS = (
     "follows/specs/Statements",
@@ -135,7 +137,7 @@ def table(crates: Path) -> str:
     for name, (lines, every) in found.items():
         folder, _, file = name.rpartition("/")
         folders.setdefault(folder, []).append((file, lines, every))
-    order = [line.partition(":")[0] for line in (crates.parent / "crates.txt").read_text(encoding="utf-8").splitlines() if ":" in line]
+    order = list(listed(crates.parent))
     rows = []
     for folder in sorted(folders, key=lambda one: (order.index(one.partition("/")[0]), one)):
         parts = ", ".join(f"{file} ({lines} of {every})" for file, lines, every in folders[folder])

@@ -3,6 +3,8 @@
 from dataclasses import dataclass
 from pathlib import Path
 
+from .listed import listed
+
 
 @dataclass(frozen=True)
 class Edit:
@@ -26,9 +28,7 @@ def read_edit(path: Path) -> Edit:
 
 def all_edits(root: Path) -> list[Edit]:
     """The edits of all crates, in the order of crates.txt, and by name."""
-    listed = [line.partition(":")[0].strip() for line in (root / "crates.txt").read_text(encoding="utf-8").splitlines() if ":" in line]
-    crates = [name for name in listed if not name.startswith("#")]
-    return [read_edit(path) for crate in crates for path in sorted((root / "crates" / crate / "must-fail").glob("*.edit"))]
+    return [read_edit(path) for crate in listed(root) for path in sorted((root / "crates" / crate / "must-fail").glob("*.edit"))]
 
 
 def table(root: Path) -> str:

@@ -13,6 +13,7 @@ from pathlib import Path
 from . import stepped
 from .definitions import Definitions
 from .edits import all_edits
+from .listed import listed
 
 FORMAT, PLAYER, README = "docs/FORMAT.md", "docs/PLAYER.md", "README.md"
 CLOSED = FORMAT, PLAYER
@@ -146,17 +147,13 @@ class Wrong:
 
 def reached(root: Path, program: str) -> tuple[int, int]:
     """How many crates a program stands on, itself included, and how many there are."""
-    listed: dict[str, list[str]] = {}
-    for line in (root / "crates.txt").read_text(encoding="utf-8").splitlines():
-        name, colon, needs = line.partition("#")[0].partition(":")
-        if colon:
-            listed[name.strip()] = needs.split()
+    every = listed(root)
     found, todo = {program}, [program]
     while todo:
-        new = {one for one in listed[todo.pop()] if one in listed} - found
+        new = {one for one in every[todo.pop()] if one in every} - found
         found |= new
         todo += new
-    return len(found), len(listed)
+    return len(found), len(every)
 
 
 def names(root: Path) -> dict[str, str]:

@@ -117,7 +117,7 @@ class Parts(WithFolder):
 
     def test_edits(self) -> None:
         """The table has each edit; one that does not say what holds is refused."""
-        self.write("crates.txt", "# edits: none\nstore: meaning\n")
+        self.write("crates.txt", "# edits: none\nstore staticlib: meaning\n")
         self.write("crates/store/must-fail/late.edit", "# a fact\nfile: src/lib.rt\nold: 1\nnew: 2\n")
         self.assertIn("| store/late | a fact | src/lib.rt |\n", edits.table(self.folder))
         self.write("crates/store/must-fail/bare.edit", "file: src/lib.rt\nold: 1\nnew: 2\n")
@@ -217,7 +217,7 @@ class Numbers(WithFolder):
 
     def test_crates(self) -> None:
         """What a program stands on is counted with all below it, without the toolchain's libraries."""
-        self.write("crates.txt", "# all: of them\na:\nb: a io\nc: b # a: more\nd: a\n")
+        self.write("crates.txt", "# all: of them\na:\nb: a io\nc staticlib: b # a: more\nd: a\n")
         self.assertEqual(numbers.reached(self.folder, "c"), (3, 4))
 
 
