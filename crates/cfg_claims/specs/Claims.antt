@@ -1,5 +1,5 @@
 -- Claims and regions, which call each other, as the words alone have them: what each call does, told by what the calls in it do.
-use Rattle.std.specs.Prelude.{◌≡◌, List, ℕ, suc, ◌-◌, ◌≤◌, ◌<◌, length, get_or}
+use Rattle.std.specs.Prelude.{◌≡◌, List, ℕ, suc, ◌≤◌, ◌<◌, length, get_or}
 use Rattle.meaning.specs.Graph.{Graph, region, edges_of}
 use Rattle.record.specs.Stands.{Stands}
 use Rattle.fields.specs.ByNumber.{edge_of}
