@@ -1,5 +1,5 @@
 -- The numbers of a list's nodes, cell by cell: those of the last cell are put first.
-use Rattle.std.specs.Prelude.{◌≡◌, List, ◌∷◌, ◌++◌, ℕ, ◌+◌, ◌-◌, length, drop}
+use Rattle.std.specs.Prelude.{◌≡◌, List, ◌∷◌, ◌++◌, ℕ, ◌+◌, length, drop}
 use Rattle.meaning.specs.Lists.{numbers_from}
 use Rattle.meaning.specs.Graph.{Graph, region}
 use Rattle.meaning.specs.Runs.{Nodes}

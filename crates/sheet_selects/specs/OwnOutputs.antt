@@ -1,5 +1,5 @@
 -- The outputs of one node among all of them: a loop from the last to the first puts a part of each, and counts them.
-use Rattle.std.specs.Prelude.{◌≡◌, List, [], ◌∷◌, ℕ, ◌-◌, ◌<◌, length, get_or, eqb}
+use Rattle.std.specs.Prelude.{◌≡◌, List, [], ◌∷◌, ℕ, ◌<◌, length, get_or, eqb}
 use Rattle.meaning.specs.Lists.{pick}
 use Rattle.meaning.specs.Graph.{undef}
 use Rattle.nesting.specs.Nesting.{NestState, plain, case_outputs}

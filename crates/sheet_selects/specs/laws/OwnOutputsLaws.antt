@@ -25,7 +25,6 @@ use Rattle.sheet_words.specs.laws.ValueShown.{place_shown}
 use Rattle.sheet_words.specs.laws.PartLaws.{values_counted, each_map}
 use Rattle.sheet_selects.specs.SelectParts.{output_types}
 use Rattle.sheet_selects.specs.OwnOutputs.{ValuesShown, PutsCaseOutputs, PutsOutputTypes, own, case_value, type_word}
-use Rattle.state_words.specs.Values.{parts}
 use Rattle.state_words.specs.Rows.{output_node, outputs_at}
 
 -- So they have at all eight places.

@@ -12,7 +12,7 @@ use Rattle.meaning.specs.Lists.{pick, times_in}
 use Rattle.meaning.specs.Graph.{Graph, Value}
 use Rattle.meaning.specs.facts.Elements.{getD_map_in}
 use Rattle.meaning.specs.facts.Tests.{eqb_sym}
-use Rattle.nesting.specs.Nesting.{NestState, NodeOutput, unmarked, look_up}
+use Rattle.nesting.specs.Nesting.{NestState, NodeOutput, unmarked}
 use Rattle.nesting.specs.Sheet as sheet
 use Rattle.state_words.specs.Sections.{word, head}
 use Rattle.state_words.specs.Values.{parts_of, bool_from}
