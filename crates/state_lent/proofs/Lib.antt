@@ -1,3 +1,0 @@
-pub mod LendPart
-pub mod StateWords
-pub mod Answered
