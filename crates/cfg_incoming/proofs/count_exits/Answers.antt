@@ -10,13 +10,12 @@ use Rattle.cfg_incoming.proofs.count_exits.Goals as goal
 
 pub loop-k-preserved : goal.loop-k-preserved
 unfolding exit_targets
-loop-k-preserved c =
-    (
-      omega arith,
-      grows_turn c.loop-k.invariant.1 c.add_one.ensures,
-      λ g s. counting_turn _ (c.exit_count-n.ensures g s) (c.loop-k.invariant.2 g s) c.loop-k-test.true
-          (c.exit_target.ensures g s) c.add_one.ensures,
-    )
+loop-k-preserved c = (
+  omega arith,
+  grows_turn c.loop-k.invariant.1 c.add_one.ensures,
+  λ g s. counting_turn _ (c.exit_count-n.ensures g s) (c.loop-k.invariant.2 g s) c.loop-k-test.true
+      (c.exit_target.ensures g s) c.add_one.ensures,
+)
 
 pub returns-clause-of_record : goal.returns-clause-of_record
 unfolding exit_targets

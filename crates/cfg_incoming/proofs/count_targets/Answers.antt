@@ -11,10 +11,9 @@ use borrow.Author.Rules.{rules}
 use Rattle.cfg_incoming.proofs.count_targets.Goals as goal
 
 pub loop-j-preserved : goal.loop-j-preserved
-loop-j-preserved c =
-    (
-      omega arith,
-      grows_turn c.loop-j.invariant.1 c.add_one.ensures,
-      λ g s. counting_turn _ (targets_counted g _ (c.target_count-n.ensures g s)) (c.loop-j.invariant.2 g s)
-          c.loop-j-test.true (c.target.ensures g s ∙ sym (target_is s _ _)) c.add_one.ensures,
-    )
+loop-j-preserved c = (
+  omega arith,
+  grows_turn c.loop-j.invariant.1 c.add_one.ensures,
+  λ g s. counting_turn _ (targets_counted g _ (c.target_count-n.ensures g s)) (c.loop-j.invariant.2 g s)
+      c.loop-j-test.true (c.target.ensures g s ∙ sym (target_is s _ _)) c.add_one.ensures,
+)

@@ -24,12 +24,11 @@ pub returns-then-depth-eq0 : goal.returns-then-depth-eq0
 returns-then-depth-eq0 c g s v r l = none_left v (c.loop-fuel.invariant.1 g s v) r l (empty_stack _ c.if-depth-eq0.true)
 
 pub loop-fuel-preserved : goal.loop-fuel-preserved
-loop-fuel-preserved c =
-    (
-      c.visit-depth.ensures.room,
-      λ g s v. c.visit-depth.ensures.of_record g s v _
-          (visiting_popped _ _ (c.loop-fuel.invariant.1 g s v) c.loop-fuel-test.true c.if-depth-eq0.false),
-    )
+loop-fuel-preserved c = (
+  c.visit-depth.ensures.room,
+  λ g s v. c.visit-depth.ensures.of_record g s v _
+      (visiting_popped _ _ (c.loop-fuel.invariant.1 g s v) c.loop-fuel-test.true c.if-depth-eq0.false),
+)
 
 pub returns : goal.returns
 returns c g s v r l = no_fuel v (c.loop-fuel.invariant.1 g s v) r l (omega arith)

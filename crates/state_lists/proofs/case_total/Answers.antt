@@ -14,9 +14,8 @@ pub loop-h-smaller : goal.loop-h-smaller
 loop-h-smaller c = named_below _ c.cases_after-h.ensures c.loop-h-test.true
 
 pub loop-h-preserved : goal.loop-h-preserved
-loop-h-preserved c =
-    (
-      case_step _ _ _ c.loop-h.invariant.0 c.cases_after-h.ensures,
-      total_turn _ _ _ c.loop-h.invariant.0 c.loop-h-test.true c.loop-h.invariant.1,
-      omega (arith, named_below _ c.cases_after-h.ensures c.loop-h-test.true, c.loop-h.invariant.2),
-    )
+loop-h-preserved c = (
+  case_step _ _ _ c.loop-h.invariant.0 c.cases_after-h.ensures,
+  total_turn _ _ _ c.loop-h.invariant.0 c.loop-h-test.true c.loop-h.invariant.1,
+  omega (arith, named_below _ c.cases_after-h.ensures c.loop-h-test.true, c.loop-h.invariant.2),
+)

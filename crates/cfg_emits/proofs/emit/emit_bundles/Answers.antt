@@ -16,13 +16,12 @@ returns-in-Full c =
     (λ g s. rw (c.in-Full.is, c.bundle_at.ensures) at (c.emit_bundle.ensures g s)))
 
 pub loop-i-preserved : goal.loop-i-preserved
-loop-i-preserved c =
-    (
-      omega arith,
-      turned_by _ _ _ _ _ c.loop-i.invariant.1 (λ g. bundles_leave g _ _)
-          c.loop-i-test.true
-          (λ g s. rw (c.in_default.is, c.bundle_at.ensures) at (c.emit_bundle.ensures g s)),
-    )
+loop-i-preserved c = (
+  omega arith,
+  turned_by _ _ _ _ _ c.loop-i.invariant.1 (λ g. bundles_leave g _ _)
+      c.loop-i-test.true
+      (λ g s. rw (c.in_default.is, c.bundle_at.ensures) at (c.emit_bundle.ensures g s)),
+)
 
 pub returns : goal.returns
 returns c = emits_by _ _ c.set_start-start.ensures c.set_length-n.ensures

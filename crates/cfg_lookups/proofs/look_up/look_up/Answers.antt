@@ -29,14 +29,14 @@ pub returns : goal.returns
 returns c =
     let left = c.loop-left.invariant in
     c.plain.ensures ∙ elim c.loop-left-test.branch [
-      else-loop-left-test w ↦ rw w.x-is (turns_over _ _ _ w.loop-left-test.false left)
-    | then-loop-left-test+else-not-is_input+then-kind-eq-NONE w ↦
-      rw w.x-is
-      (turn_none _ _ _ _ _ 0 0 w.loop-left-test.true left (sym w.is_input.ensures ∙ w.if-not-is_input.false) w.input_region-r.ensures
-      w.rewrite_kind-kind.ensures w.if-kind-eq-NONE.true)
-    | then-loop-left-test+else-not-is_input+else-kind-eq-NONE+then-renumbers w ↦
-      rw w.x-is
-      (turn_renumbers _ _ _ _ _ _ _ w.loop-left-test.true left (sym w.is_input.ensures ∙ w.if-not-is_input.false)
-      w.input_region-r.ensures w.rewrite_kind-kind.ensures w.if-kind-eq-NONE.false w.input_index.ensures w.rewrite_value-x.ensures
-      (sym w.renumbers.ensures ∙ w.if-renumbers.true))
+      | else-loop-left-test w ↦ rw w.x-is (turns_over _ _ _ w.loop-left-test.false left)
+      | then-loop-left-test+else-not-is_input+then-kind-eq-NONE w ↦
+          rw w.x-is
+          (turn_none _ _ _ _ _ 0 0 w.loop-left-test.true left (sym w.is_input.ensures ∙ w.if-not-is_input.false) w.input_region-r.ensures
+          w.rewrite_kind-kind.ensures w.if-kind-eq-NONE.true)
+      | then-loop-left-test+else-not-is_input+else-kind-eq-NONE+then-renumbers w ↦
+          rw w.x-is
+          (turn_renumbers _ _ _ _ _ _ _ w.loop-left-test.true left (sym w.is_input.ensures ∙ w.if-not-is_input.false)
+          w.input_region-r.ensures w.rewrite_kind-kind.ensures w.if-kind-eq-NONE.false w.input_index.ensures w.rewrite_value-x.ensures
+          (sym w.renumbers.ensures ∙ w.if-renumbers.true))
     ]

@@ -26,19 +26,18 @@ pub loop-j-init : goal.loop-j-init
 loop-j-init t c = (no_part refl refl refl, refl, omega arith)
 
 pub materialize_lazy_cond-requires : goal.materialize_lazy_cond-requires
-materialize_lazy_cond-requires t c =
-    (
-      omega (
-        arith,
-        c.cond_part-part.ensures,
-        part_below
-            (word c.loop-j.w conditions
-            (merge_part_at c.args.c c.loop-j.j))
-            c.args.c
-            c.if-c-lt-MERGE.false,
-      ),
-      tt,
-    )
+materialize_lazy_cond-requires t c = (
+  omega (
+    arith,
+    c.cond_part-part.ensures,
+    part_below
+        (word c.loop-j.w conditions
+        (merge_part_at c.args.c c.loop-j.j))
+        c.args.c
+        c.if-c-lt-MERGE.false,
+  ),
+  tt,
+)
 
 pub returns-in-Full : goal.returns-in-Full
 returns-in-Full t c =
@@ -61,18 +60,17 @@ bounds-vs-j t c =
     )
 
 pub loop-j-preserved : goal.loop-j-preserved
-loop-j-preserved t c =
-    (
-      part_turn _ _ c.loop-j.invariant.0
-          c.shape_size-n.ensures
-          c.cond_shape.ensures
-          c.loop-j-test.true
-          c.cond_part-part.ensures c.materialize_lazy_cond.ensures
-          c.in-Number.is,
-      simp length-set c.loop-j.invariant.1,
-      omega
-          (arith, c.loop-j-test.true),
-    )
+loop-j-preserved t c = (
+  part_turn _ _ c.loop-j.invariant.0
+      c.shape_size-n.ensures
+      c.cond_shape.ensures
+      c.loop-j-test.true
+      c.cond_part-part.ensures c.materialize_lazy_cond.ensures
+      c.in-Number.is,
+  simp length-set c.loop-j.invariant.1,
+  omega
+      (arith, c.loop-j-test.true),
+)
 
 pub returns : goal.returns
 returns t c =

@@ -12,8 +12,8 @@ pub loop-i-preserved : goal.loop-i-preserved
 loop-i-preserved c = bundles_next _ _ _ _ _ _ _ _ _ _ c.loop-i.invariant
     c.loop-i-test.true c.bundle_at.ensures c.plan_bundle.ensures
     (elim c.if-plan_bundle.branch [
-      then-plan_bundle w ↦ need_more _ w.if-plan_bundle.true w.needed-is
-    | else-plan_bundle w ↦ need_same w.if-plan_bundle.false w.needed-is
+      | then-plan_bundle w ↦ need_more _ w.if-plan_bundle.true w.needed-is
+      | else-plan_bundle w ↦ need_same w.if-plan_bundle.false w.needed-is
     ])
 
 pub returns : goal.returns

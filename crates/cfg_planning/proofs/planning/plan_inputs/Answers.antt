@@ -12,8 +12,8 @@ pub loop-k-preserved : goal.loop-k-preserved
 loop-k-preserved c = inputs_next _ _ _ _ _ _ _ _ _ c.loop-k.invariant c.loop-k-test.true
     c.plan_input.ensures
     (elim c.if-plan_input.branch [
-      then-plan_input w ↦ need_more _ w.if-plan_input.true w.merged-is
-    | else-plan_input w ↦ need_same w.if-plan_input.false w.merged-is
+      | then-plan_input w ↦ need_more _ w.if-plan_input.true w.merged-is
+      | else-plan_input w ↦ need_same w.if-plan_input.false w.merged-is
     ])
 
 pub returns : goal.returns

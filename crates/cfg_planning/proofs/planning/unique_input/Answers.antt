@@ -22,11 +22,11 @@ pub loop-j-preserved : goal.loop-j-preserved
 loop-j-preserved c = (
   c.loop-j.invariant.0,
   elim c.if-p.branch [
-    then-p+else-found w ↦
-    rw w.found-is
-    (unique_next _ _ _ _ _ _ c.loop-j.invariant.1 c.loop-j-test.true _ refl w.if-p.true w.target_input.ensures w.in_parent-v.ensures
-    w.with_passed-found.ensures w.if-found.false)
-  | else-p w ↦ rw w.found-is (unique_past _ _ _ _ _ _ c.loop-j.invariant.1 c.loop-j-test.true _ refl w.if-p.false)
+    | then-p+else-found w ↦
+        rw w.found-is
+        (unique_next _ _ _ _ _ _ c.loop-j.invariant.1 c.loop-j-test.true _ refl w.if-p.true w.target_input.ensures w.in_parent-v.ensures
+        w.with_passed-found.ensures w.if-found.false)
+    | else-p w ↦ rw w.found-is (unique_past _ _ _ _ _ _ c.loop-j.invariant.1 c.loop-j-test.true _ refl w.if-p.false)
   ],
 )
 

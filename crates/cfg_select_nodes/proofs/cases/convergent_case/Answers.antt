@@ -17,13 +17,13 @@ pub loop-j-preserved : goal.loop-j-preserved
 loop-j-preserved c = (
   omega arith,
   elim c.if-case_length-ne0.branch [
-    then-case_length-ne0+else-found-ne8 w ↦
-    rw w.found-is
-    (convergent_first _ _ _ _ c.loop-j.invariant.1 c.loop-j-test.true (λ e. w.if-case_length-ne0.true (c.case_length.ensures ∙ e))
-    w.if-found-ne8.false)
-  | else-case_length-ne0 w ↦
-    rw w.found-is
-    (convergent_skip _ _ _ _ c.loop-j.invariant.1 c.loop-j-test.true (sym c.case_length.ensures ∙ w.if-case_length-ne0.false))
+    | then-case_length-ne0+else-found-ne8 w ↦
+        rw w.found-is
+        (convergent_first _ _ _ _ c.loop-j.invariant.1 c.loop-j-test.true (λ e. w.if-case_length-ne0.true (c.case_length.ensures ∙ e))
+        w.if-found-ne8.false)
+    | else-case_length-ne0 w ↦
+        rw w.found-is
+        (convergent_skip _ _ _ _ c.loop-j.invariant.1 c.loop-j-test.true (sym c.case_length.ensures ∙ w.if-case_length-ne0.false))
   ],
 )
 
