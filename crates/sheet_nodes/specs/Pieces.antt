@@ -1,5 +1,5 @@
 -- The lines of a concluded nesting as parts: what is put, and the note that its look-ups take.
-use Rattle.std.specs.Prelude.{◌≡◌, Bool, ◌||◌, ℕ, ◌+◌, leb}
+use Rattle.std.specs.Prelude.{◌≡◌, Bool, ◌||◌, ℕ, leb}
 use Rattle.std.proofs.Math.Path.{refl, ap}
 use Rattle.std.proofs.Common.{sym, ◌∙◌}
 use Rattle.std.proofs.Math.Bool.{true, false}

@@ -1,0 +1,7 @@
+use Rattle.sheet_nodes.specs.Inside.{inner_put}
+use Rattle.sheet_nodes.proofs.cell.put_cell_lines.Goals as goal
+
+pub returns : goal.returns
+returns c =
+    inner_put c.if-j-eq0.false (rw c.inner_at-list.ensures at c.put_walked_lines-walked.ensures)
+    c.put_inner_line.ensures
