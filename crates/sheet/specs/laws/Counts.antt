@@ -1,5 +1,5 @@
 -- Counts held at the largest word: such a sheet is as long as the definition's, and the same if it has no more words than a word can say.
-use Rattle.std.specs.Prelude.{◌≡◌, refl, List, [], ◌∷◌, ◌++◌, map, ℕ, ◌+◌, ◌≤◌, length}
+use Rattle.std.specs.Prelude.{◌≡◌, refl, List, [], ◌∷◌, ◌++◌, map, ℕ, ◌≤◌, length}
 use Rattle.std.proofs.Common.{ap, ◌∙◌, arith, length-append, le-leb}
 use Rattle.meaning.specs.Lists.{concat}
 use Rattle.meaning.specs.Graph.{Graph, Value}

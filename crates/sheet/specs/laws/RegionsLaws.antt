@@ -17,7 +17,7 @@ use Rattle.sheet_words.specs.declared.place.Place.{Place}
 use Rattle.sheet_words.specs.PutInFront.{Puts}
 use Rattle.sheet_words.specs.laws.PutInFrontLaws.{puts_then, puts_none, puts_as}
 use Rattle.sheet_words.specs.laws.Rows.{run_start, run_turn, run_all}
-use Rattle.sheet_words.specs.Parts.{OfState, Concluded, values_part, nodes_part, each}
+use Rattle.sheet_words.specs.Parts.{OfState, Concluded, values_part, nodes_part}
 use Rattle.sheet_regions.specs.declared.region_line.RegionInputs.TheVariants.{All}
 use Rattle.sheet_regions.specs.RegionLine.{region_front, all_types, PutsRegionLine}
 use Rattle.sheet_regions.specs.laws.RegionLineLaws.{line_put}
