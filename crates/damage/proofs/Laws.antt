@@ -9,7 +9,7 @@ use native.Mathlib.Nat.{sub-zero}
 use lib.ListN.{length, get_or, take, drop, drop_of_length-le}
 use lib.Seq.{drop-cons}
 use Rattle.format.specs.Accept.{accept}
-use Rattle.format.specs.laws.Refusals.{refusal_range}
+use Rattle.format.proofs.laws.Refusals.{refusal_range}
 use Rattle.text_parts.specs.Listing.{shown_text}
 use Rattle.accept.specs.declared.Accepted.TheVariants.{Record, Refused}
 use Rattle.accept.specs.Judged.{words_given, not_given}

@@ -4,5 +4,4 @@ pub mod simulation
 pub mod chains
 pub mod counting
 pub mod cost
-pub mod sound
 pub mod examples

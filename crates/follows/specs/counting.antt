@@ -4,7 +4,3 @@ pub mod Totals
 pub mod SelectTotals
 pub mod SplitTotals
 pub mod Counting
-pub mod CountClaim
-pub mod CountScan
-pub mod CountRegion
-pub mod Attempts

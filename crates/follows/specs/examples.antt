@@ -1,2 +1,1 @@
 pub mod CaseForms
-pub mod Examples

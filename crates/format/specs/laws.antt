@@ -4,7 +4,4 @@ pub mod WrittenBack
 pub mod Readers
 pub mod WellRead
 pub mod AcceptValid
-pub mod ReadingStops
-pub mod Refusals
 pub mod FirstEdges
-pub mod UndefinedTypes

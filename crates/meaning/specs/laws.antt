@@ -1,2 +1,1 @@
 pub mod LoopTurns
-pub mod MoreBudget

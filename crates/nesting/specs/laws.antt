@@ -1,4 +1,2 @@
-pub mod HeldStays
 pub mod DearestCase
 pub mod FirstClaim
-pub mod NoMarks

@@ -1,5 +1,1 @@
 pub mod Rewriting
-pub mod ChainSteps
-pub mod ChainEnds
-pub mod Contexts
-pub mod SecondLookUp

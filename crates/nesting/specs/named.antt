@@ -1,7 +1,1 @@
-pub mod NamedLookUps
-pub mod NamedSteps
-pub mod NamedSelects
-pub mod NamedClaims
-pub mod NamedAnswer
-pub mod ValidNamed
 pub mod ShownApart

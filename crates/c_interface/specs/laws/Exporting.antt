@@ -3,7 +3,7 @@ use Rattle.std.specs.Prelude.{◌≡◌, refl, List, ℕ, ◌+◌, ◌*◌, ◌<
 use Rattle.std.proofs.Common.{arith}
 use Rattle.format.specs.Accept.{accept}
 use Rattle.meaning.specs.facts.Tests.{clash}
-use Rattle.format.specs.laws.Refusals.{number_within}
+use Rattle.format.proofs.laws.Refusals.{number_within}
 use Rattle.accept.specs.declared.Accepted.TheVariants.{Record, Refused}
 use Rattle.accept.specs.Judged.{words_given, not_given}
 use Rattle.accept.specs.Accepts.{Accepts}

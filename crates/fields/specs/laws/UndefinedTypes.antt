@@ -4,7 +4,7 @@ use Rattle.meaning.specs.Graph.{Graph, nowhere, region}
 use Rattle.meaning.specs.Lists.{All}
 use Rattle.meaning.specs.facts.Elements.{all_get_d}
 use Rattle.format.specs.References.{no_instr}
-use Rattle.format.specs.laws.UndefinedTypes.{TypeRead, ReadsTypes, TypesRead, record_types}
+use Rattle.format.proofs.laws.UndefinedTypes.{TypeRead, ReadsTypes, TypesRead, record_types}
 use Rattle.record.specs.Stands.{Stands, words_of_record}
 use Rattle.fields.specs.ByNumber.{block_of, instr_of, end_values}
 

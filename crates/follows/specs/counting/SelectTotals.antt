@@ -13,8 +13,9 @@ use Rattle.nesting.specs.Nesting.{emit_inputs, emit_condition, emit, shared_bund
 use Rattle.nesting.specs.Nesting.{structurize_select_by, without_convergent, structurize_select_into}
 use Rattle.nesting.specs.lookups.Rewriting.{rewrite_cases_is, rewrite, rewrite_bundle, rewrite_case}
 use Rattle.nesting.specs.steps.Post.{Post, map_post, bind}
-use Rattle.nesting.specs.steps.Keeps.{define_select_keeps, emit_inputs_keeps, emit_condition_keeps, replace_inputs_keeps}
-use Rattle.nesting.specs.steps.StatesKept.{KeepsStates, states_kept_refl, states_kept_then, states_kept_steady, states_kept_log}
+use Rattle.nesting.proofs.steps.Keeps.{define_select_keeps, emit_inputs_keeps, emit_condition_keeps, replace_inputs_keeps}
+use Rattle.nesting.specs.steps.StatesKept.{KeepsStates, states_kept_refl, states_kept_then}
+use Rattle.nesting.proofs.steps.StatesSteady.{states_kept_steady, states_kept_log}
 use Rattle.meaning.specs.facts.Elements.{In, nth_in}
 use Rattle.follows.specs.simulation.ConvergentCase.{converges}
 use Rattle.follows.specs.counting.Totals.{Measure, edge_total, totals, summary_total, planned_total, bundles_to, edges_to, edgeless}

@@ -5,7 +5,7 @@ use Rattle.std.proofs.Math.Path.{subst, sym}
 use Rattle.meaning.specs.Runs.{Nodes}
 use Rattle.meaning.specs.Graph.{Value, input, undef}
 use Rattle.meaning.specs.facts.Tests.{clash, or_either, or_right}
-use Rattle.nesting.specs.lookups.Contexts.{InContext, context_replaced, entry_at}
+use Rattle.nesting.proofs.lookups.Contexts.{InContext, context_replaced, entry_at}
 use Rattle.nesting.specs.Nesting.{Body, ClaimedRegion, MaybeClaimedRegion, append_maybe_claimed_region, deferred_of, err, join, ok}
 use Rattle.nesting.specs.Nesting.{DeferredEdgeBundle, DeferredEdgeBundleSet, LazyCond, false_cond, merge, true_cond, undef_cond, NestState}
 use Rattle.nesting.specs.Nesting.{NodeOutput}

@@ -8,7 +8,7 @@ use Rattle.std.proofs.Math.Option.{none}
 use Rattle.std.proofs.Math.Path.{ap, refl, sym}
 use Rattle.meaning.specs.Runs.{⟨⟩, run_nodes, End, Event, RunState, Word, put_inputs, word}
 use Rattle.meaning.specs.Graph.{Instr, Value, bool, const, held, input, instr, output, region, undef, no_value}
-use Rattle.nesting.specs.lookups.Contexts.{no_input, own_in, rooted_ends}
+use Rattle.nesting.proofs.lookups.Contexts.{no_input, own_in, rooted_ends}
 use Rattle.nesting.specs.Nesting.{block_count, blocks_from, blocks_of, same_target, MaybeClaimedRegion, DeferredEdgeBundle, to_region}
 use Rattle.nesting.specs.Nesting.{true_cond, rewrites_of, NestState, NodeOutput, ready, look_up_nodes}
 use Rattle.nesting.specs.lookups.Rewriting.{rewrite_last}

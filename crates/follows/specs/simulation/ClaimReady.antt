@@ -11,7 +11,7 @@ use Rattle.std.proofs.lemmas.Bool.{eqb-false}
 use Rattle.meaning.specs.Runs.{LoopNode, Nodes, ◌▸◌, loop, ⟨⟩}
 use Rattle.meaning.specs.Graph.{Value, bool, input, undef}
 use Rattle.meaning.specs.facts.Tests.{clash, eqb_self, false_if, or_either}
-use Rattle.nesting.specs.lookups.Contexts.{InContext, context_replaced, entry_at, open_else, own_in}
+use Rattle.nesting.proofs.lookups.Contexts.{InContext, context_replaced, entry_at, open_else, own_in}
 use Rattle.meaning.specs.Lists.{any, pick}
 use Rattle.nesting.specs.Nesting.{loop_node, exit_targets, get_edge_bundle_by_target, same_target, split_out_target, ClaimedRegion}
 use Rattle.nesting.specs.Nesting.{define_node, define_region, set_state, with_twice, backedge_of, claim_body, claim_by_state}

@@ -12,7 +12,7 @@ use Rattle.nesting.specs.Nesting.{DeferredEdgeBundleSet, initial_state, blocks_o
 use Rattle.nesting.specs.Nesting.{by_control_inst, claim_by_state, resolve_deferred, structurize_region, target_regions}
 use Rattle.nesting.specs.Nesting.{try_claim_edge_bundle, IncomingEdgeCount, NestState, StructurizeRegionState, claimed, follow, give}
 use Rattle.nesting.specs.Nesting.{in_progress, not_begun, ready, turn_away, add_attempt}
-use Rattle.nesting.specs.lookups.Contexts.{itself}
+use Rattle.nesting.proofs.lookups.Contexts.{itself}
 use Rattle.nesting.specs.steps.RegionsLeft.{all_not_begun, state_of}
 use Rattle.nesting.specs.steps.Post.{bind, map_post}
 use Rattle.follows.specs.counting.Reach.{target_reachable}

@@ -3,7 +3,7 @@ use Rattle.std.specs.Prelude.{Bool, false, true, List, [], ◌∷◌, ◌≡◌,
 use Rattle.std.proofs.Common.{inl, inr, ◌∙◌, arith}
 use Rattle.std.proofs.Math.Option.{Option, none, some}
 use Rattle.meaning.specs.Graph.{SelectionKind, Value, bool, bool_cond, number, output, same_values}
-use Rattle.nesting.specs.steps.Keeps.{Steady, define_merge_keeps}
+use Rattle.nesting.proofs.steps.Keeps.{Steady, define_merge_keeps}
 use Rattle.meaning.specs.facts.Tests.{clash}
 use Rattle.nesting.specs.Nesting.{most_nodes, most_outputs, most_regions, define_merge, define_node, define_output, define_region}
 use Rattle.nesting.specs.Nesting.{materialize_lazy_cond, materialize_lazy_conds, DeferredEdgeBundleSet, LazyCond, LazyConds, ◌&◌}

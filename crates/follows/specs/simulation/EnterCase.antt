@@ -12,7 +12,7 @@ use Rattle.nesting.specs.Nesting.{ClaimedRegion, MaybeClaimedRegion, Scrutinee, 
 use Rattle.nesting.specs.Nesting.{DeferredEdgeBundleSet, DeferredTarget, to_region, rewrites_of, NestState, NodeOutput, RewriteEntry}
 use Rattle.nesting.specs.Nesting.{look_up_nodes}
 use Rattle.nesting.specs.lookups.Rewriting.{rewrite_nodes, rewrite, rewrite_bundle, rewrite_case}
-use Rattle.nesting.specs.lookups.ChainSteps.{stops_rewrite}
+use Rattle.nesting.proofs.lookups.ChainSteps.{stops_rewrite}
 use Rattle.meaning.specs.facts.Elements.{In, from_map, getD_map_in, in_map, nth}
 use Rattle.meaning.specs.facts.Tests.{false_if}
 use Rattle.nesting.specs.steps.TargetsAndCases.{children_in}

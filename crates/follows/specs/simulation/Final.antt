@@ -3,9 +3,9 @@ use Rattle.std.proofs.Math.Option.{none}
 use Rattle.std.specs.Prelude.{List, ◌≡◌, refl, suc, ℕ, length}
 use Rattle.std.proofs.Common.{◌∙◌, ap, sym, arith}
 use Rattle.meaning.specs.Graph.{bool, const, input, instr, output, undef}
-use Rattle.nesting.specs.lookups.ChainEnds.{ChainsEnd, rewrite_enough}
-use Rattle.nesting.specs.lookups.ChainSteps.{chain_steps, next_value, stops_rewrite}
-use Rattle.nesting.specs.laws.HeldStays.{rewrite_held}
+use Rattle.nesting.proofs.lookups.ChainEnds.{ChainsEnd, rewrite_enough}
+use Rattle.nesting.proofs.lookups.ChainSteps.{chain_steps, next_value, stops_rewrite}
+use Rattle.nesting.proofs.laws.HeldStays.{rewrite_held}
 use Rattle.nesting.specs.Nesting.{rewrites_of, RewriteEntry, unmarked}
 use Rattle.nesting.specs.lookups.Rewriting.{rewrite_last}
 use Rattle.follows.specs.simulation.Tables.{Respects, Tables}

@@ -12,13 +12,13 @@ use Rattle.meaning.specs.Graph.{Value, input, Graph, region}
 use Rattle.meaning.specs.Lists.{numbers_from, empty, pick}
 use Rattle.meaning.specs.Runs.{Word, word32, End, returned, Given, RunState, base_env, entry_words, Nodes, ⟨⟩, Ended, run_from, graph_run}
 use Rattle.meaning.specs.Runs.{Ran, through, ended, no_end, run_nodes, NestedEnded, ends_as, ended_at, after_last, start, nested_run}
-use Rattle.meaning.specs.laws.MoreBudget.{nested_run_one}
+use Rattle.meaning.proofs.laws.MoreBudget.{nested_run_one}
 use Rattle.meaning.specs.facts.Tests.{clash, false_if}
 use Rattle.format.specs.Valid.{Valid}
 use Rattle.format.specs.Store
 use Rattle.format.specs.Store.{accepted}
 use Rattle.format.specs.Refusals.{never}
-use Rattle.nesting.specs.lookups.Contexts.{rooted_ends}
+use Rattle.nesting.proofs.lookups.Contexts.{rooted_ends}
 use Rattle.nesting.specs.Nesting.{DeferredTarget, to_region, to_return, DeferredEdgeBundle, DeferredEdgeBundleSet, Outcome, untouched}
 use Rattle.nesting.specs.Nesting.{whole, closed, leftover, Nested, IncomingEdgeCount, StructurizeRegionState, not_begun, in_progress}
 use Rattle.nesting.specs.Nesting.{claimed, ready, NestState, StepAnswer, done, turned_away, give, follow, ◌>>◌, turn_away, set_state}

@@ -8,13 +8,13 @@ use Rattle.std.proofs.Math.Option.{Option, none, some}
 use Rattle.std.proofs.Common.{◌∙◌, ap, subst, sym, arith}
 use Rattle.meaning.specs.Runs.{Nodes}
 use Rattle.meaning.specs.Graph.{Value}
-use Rattle.nesting.specs.lookups.ChainEnds.{RewritesTo, entry_kept}
+use Rattle.nesting.proofs.lookups.ChainEnds.{RewritesTo, entry_kept}
 use Rattle.meaning.specs.facts.Tests.{clash}
-use Rattle.nesting.specs.lookups.Contexts.{InContext, Rooted, open_else, rooted_add}
+use Rattle.nesting.proofs.lookups.Contexts.{InContext, Rooted, open_else, rooted_add}
 use Rattle.nesting.specs.Nesting.{DeferredEdgeBundleSet, rewrites_of, NestState, RegionInputRewrites, RewriteEntry, StructurizeRegionState}
 use Rattle.nesting.specs.Nesting.{claimed, in_progress, not_begun, ready}
 use Rattle.nesting.specs.steps.RegionsLeft.{state_of}
-use Rattle.nesting.specs.steps.Keeps.{with_entry}
+use Rattle.nesting.proofs.steps.Keeps.{with_entry}
 use Rattle.follows.specs.simulation.Key.{Key, of_input, of_instr, of_node, of_none, owns_nodes}
 use Rattle.follows.specs.simulation.World.{World, ar, size}
 use Rattle.follows.specs.simulation.Tables.{Gains, gains_refl, gains_then, tables}

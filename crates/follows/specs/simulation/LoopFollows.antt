@@ -10,7 +10,7 @@ use Rattle.meaning.specs.Runs.{LoopNode, Nodes, ◌▸◌, loop, ⟨⟩, Ran, as
 use Rattle.meaning.specs.Runs.{through, turns, End, Event, RunState, Word, mark, word}
 use Rattle.meaning.specs.Graph.{Value, bool, input, undef}
 use Rattle.meaning.specs.laws.LoopTurns.{inputs_at_once, last_turn, next_turn}
-use Rattle.nesting.specs.lookups.Contexts.{entry_at}
+use Rattle.nesting.proofs.lookups.Contexts.{entry_at}
 use Rattle.nesting.specs.Nesting.{same_target, DeferredEdgeBundle, DeferredEdgeBundleSet, to_region, rewrites_of, InputRewrite, NodeOutput}
 use Rattle.nesting.specs.Nesting.{renumber_or_replace_with, renumber_to, replace_by, look_up_nodes}
 use Rattle.nesting.specs.lookups.Rewriting.{rewrite_loop, rewrite_nodes}

@@ -6,8 +6,8 @@ use Rattle.meaning.specs.Graph.{Value, bool, const, held, input, instr, output, 
 use Rattle.nesting.specs.Nesting.{chain_fuel, rewrites_of, InputRewrite, NestState, NodeOutput, RegionInputRewrites, RewriteEntry}
 use Rattle.nesting.specs.Nesting.{renumber_or_replace_with, renumber_to, replace_by, replace_with, look_up}
 use Rattle.nesting.specs.lookups.Rewriting.{rewrite}
-use Rattle.nesting.specs.lookups.ChainSteps.{after_steps, chain_steps, next_value, step_input, step_chain}
-use Rattle.nesting.specs.lookups.ChainEnds.{entry_kept}
+use Rattle.nesting.proofs.lookups.ChainSteps.{after_steps, chain_steps, next_value, step_input, step_chain}
+use Rattle.nesting.proofs.lookups.ChainEnds.{entry_kept}
 use Rattle.meaning.specs.facts.Elements.{nth, nth_append, Extends, extends_refl, extends_then}
 use Rattle.follows.specs.simulation.Key.{OutputAt}
 

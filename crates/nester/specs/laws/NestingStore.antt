@@ -13,7 +13,7 @@ use Rattle.record.specs.Stands.{Stands, OfRecord}
 use Rattle.record.specs.Outcome.{forget}
 use Rattle.nesting.specs.Nesting.{Nested, structurize_func}
 use Rattle.nesting.specs.Sheet.{Sheet, answer, answer_words, sheet_for, sheet_of, figure_fits, words_fit, sheet_words}
-use Rattle.follows.specs.sound.Sound.{sound}
+use Rattle.follows.proofs.sound.Sound.{sound}
 use Rattle.accept.specs.Accepts.{Accepts, accept_answered}
 use Rattle.accept.specs.declared.Accepted.{Accepted}
 use Rattle.accept.specs.declared.Accepted.TheVariants.{Record, Refused as Rejected}

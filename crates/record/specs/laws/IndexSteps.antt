@@ -13,7 +13,7 @@ use Rattle.meaning.specs.facts.Numbers.{one_less, none_left}
 use Rattle.format.specs.Store.{Answer, accepted, refused, if_accepted}
 use Rattle.format.specs.Read.{Read, got, bad, read_region, word_for, settle, regions_from}
 use Rattle.format.specs.Refusals.{wrong_word_count, out_of_range}
-use Rattle.format.specs.laws.ReadingStops.{StopsReading, region_stops}
+use Rattle.format.proofs.laws.ReadingStops.{StopsReading, region_stops}
 use Rattle.meaning.specs.Lists.{Within}
 use Rattle.format.specs.Places.{next, forget_value, after, block_of_region, limit_of_region, exits_of_region}
 use Rattle.meaning.specs.facts.Tests.{clash}

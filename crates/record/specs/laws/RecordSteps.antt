@@ -14,7 +14,7 @@ use Rattle.format.specs.Read.{Read, got, bad, block, read_region, word_for, regi
 use Rattle.format.specs.Places.{next, after, start_of_region, blocks_of_region, block_of_region, limit_of_region, exits_of_region}
 use Rattle.meaning.specs.facts.Tests.{clash}
 use Rattle.format.specs.Refusals.{wrong_word_count, out_of_range}
-use Rattle.format.specs.laws.ReadingStops.{head_stops}
+use Rattle.format.proofs.laws.ReadingStops.{head_stops}
 use Rattle.format.specs.laws.Readers.{many_length}
 use Rattle.meaning.specs.Lists.{Within}
 use Rattle.record.specs.Stands.{words_of_record, Indexed, Stands}

@@ -19,7 +19,7 @@ use Rattle.state_words.specs.Values.{value_word}
 use Rattle.state_shown.specs.Values.{value}
 use Rattle.cfg_bundles.specs.EdgesAndCases.{record_word}
 use Rattle.cfg_bundles.specs.laws.paths.Paths.{word_of_record}
-use Rattle.format.specs.laws.UndefinedTypes.{TypeRead}
+use Rattle.format.proofs.laws.UndefinedTypes.{TypeRead}
 use Rattle.fields.specs.laws.UndefinedTypes.{instr_types_read, end_types_read}
 use Rattle.cfg_bundles.specs.laws.shown.RecordValues.{usable_names}
 

@@ -12,7 +12,7 @@ use borrow.Author.Tests.{eq-eqb, ne_eqb, lt-ltb, le-ltb}
 use Rattle.meaning.specs.facts.Tests.{clash, in_or_out}
 use Rattle.nesting.specs.Nesting.{RegionInputRewrites, replace_with, renumber_or_replace_with, RewriteEntry, NestState, rewrites_of}
 use Rattle.nesting.specs.Nesting.{with_tables, most_regions}
-use Rattle.nesting.specs.lookups.ChainEnds.{entry_kept}
+use Rattle.nesting.proofs.lookups.ChainEnds.{entry_kept}
 use Rattle.state_words.specs.Sections.{section, word, stored, stored_all, rewrites, outputs, start, size, used}
 use Rattle.state_words.specs.laws.Apart.{section_stored}
 use Rattle.state_nodes.specs.NodeTables.{entry_kind, rewrite_kind, entries, cleared, reached, inserted}

@@ -13,7 +13,7 @@ use Rattle.text.specs.laws.Lengths.{refusal_length}
 use Rattle.text_parts.specs.Listing.{listing_of, shown_text}
 use Rattle.text_record.specs.laws.ItemBytes.{IsWord}
 use Rattle.text_record.specs.laws.RegionBytes.{listing_enough}
-use Rattle.format.specs.laws.Refusals.{InRange, refusal_range}
+use Rattle.format.proofs.laws.Refusals.{InRange, refusal_range}
 use Rattle.meaning.specs.Lists.{tabulate}
 use Rattle.meaning.specs.facts.Elements.{all_get_d}
 

@@ -28,9 +28,9 @@ use Rattle.follows.specs.simulation.Usable.{EdgesUsable}
 use Rattle.follows.specs.simulation.ValidUse.{edges_of_usable}
 use Rattle.follows.specs.counting.Totals.{edge_total, edges_to, totals, edgeless}
 use Rattle.follows.specs.counting.Counting.{Nine, Counted, counted_as, pre_after, pre_as}
-use Rattle.follows.specs.counting.CountClaim.{edges_self}
-use Rattle.follows.specs.counting.CountScan.{aims, AllLive}
-use Rattle.follows.specs.counting.CountRegion.{Begun, targets_live, claim_counted, structurize_counted}
+use Rattle.follows.proofs.counting.CountClaim.{edges_self}
+use Rattle.follows.proofs.counting.CountScan.{aims, AllLive}
+use Rattle.follows.proofs.counting.CountRegion.{Begun, targets_live, claim_counted, structurize_counted}
 use Rattle.state_words.specs.Sections.{word, stored, kinds, children, set_lengths, head, rewrites}
 use Rattle.state_words.specs.Totals.{attempted}
 use Rattle.state_regions.specs.RegionTables.{target_answer, target_answer_stored}

@@ -21,13 +21,13 @@ use Rattle.nesting.specs.Nesting.{claimed, structurize_func, structurize_func_by
 use Rattle.nesting.specs.Nesting.{try_claim_edge_bundle, reachable, to_region, ClaimedRegion, region_body, done, turned_away}
 use Rattle.nesting.specs.Nesting.{StructurizeRegionState, in_progress, ready, claim_by_state, structurize_region, begin, follow, get_state}
 use Rattle.nesting.specs.Nesting.{DeferredEdgeBundleSet, DeferredTarget, to_return, add_attempt}
-use Rattle.nesting.specs.lookups.ChainEnds.{ChainsEnd}
+use Rattle.nesting.proofs.lookups.ChainEnds.{ChainsEnd}
 use Rattle.nesting.specs.steps.RegionsLeft.{all_not_begun, state_of}
 use Rattle.follows.specs.simulation.Claims.{at_first}
 use Rattle.follows.specs.counting.Totals.{edges_to}
 use Rattle.follows.specs.counting.Counting.{owed, owed_by}
 use Rattle.follows.specs.counting.Reach.{entry_reachable}
-use Rattle.follows.specs.counting.Attempts.{start_pre}
+use Rattle.follows.proofs.counting.Attempts.{start_pre}
 use Rattle.follows.specs.chains.Chains.{chains_end}
 use Rattle.state_words.specs.Sections.{used}
 use Rattle.state_shown.specs.Front.{SameFront}

@@ -42,7 +42,7 @@ use Rattle.state_shown.specs.laws.CellSteps.{blocks_added, exit_added, cell_asid
 use Rattle.state_shown.specs.laws.SetStores.{OnlySets, only_same, only_then, only_total, only_preserves, only_word_same, word_other}
 use Rattle.cfg_bundles.specs.EdgesAndCases.{cases_filled, filled_from, case_filled, padded_by, record_word, return_deferred}
 use Rattle.cfg_bundles.specs.laws.paths.Paths.{padded_in}
-use Rattle.format.specs.laws.UndefinedTypes.{TypeRead}
+use Rattle.format.proofs.laws.UndefinedTypes.{TypeRead}
 use Rattle.fields.specs.laws.UndefinedTypes.{end_types_read}
 use Rattle.cfg_bundles.specs.laws.shown.RecordValues.{usable_names, few_edges}
 use Rattle.cfg_bundles.specs.laws.shown.Deferred.{return_deferred_only, return_deferred_kept, return_deferred_state, return_deferred_shown}

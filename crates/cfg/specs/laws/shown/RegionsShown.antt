@@ -21,8 +21,8 @@ use Rattle.follows.specs.simulation.ByTerminator.{by_control_inst_post}
 use Rattle.follows.specs.simulation.Claims.{claim_post, first_doing}
 use Rattle.follows.specs.counting.Totals.{edge_total, edges_to, totals, edgeless}
 use Rattle.follows.specs.counting.Counting.{Nine, Pre, Counted, owed, owed_by, owed_set, live_count, counted_then, pre_after}
-use Rattle.follows.specs.counting.CountScan.{aims, CasesCounted, BodyCounted, target_regions_counted, by_control_inst_counted}
-use Rattle.follows.specs.counting.CountRegion.{claim_counted, targets_live, pre_under_way}
+use Rattle.follows.proofs.counting.CountScan.{aims, CasesCounted, BodyCounted, target_regions_counted, by_control_inst_counted}
+use Rattle.follows.proofs.counting.CountRegion.{claim_counted, targets_live, pre_under_way}
 use Rattle.state_words.specs.Sections as sections
 use Rattle.state_words.specs.Sections.{Section, number, word, stored, kinds, backedges, children, bundles, set_starts, set_lengths, head}
 use Rattle.state_words.specs.Sections.{used}

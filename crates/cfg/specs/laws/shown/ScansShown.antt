@@ -17,9 +17,9 @@ use Rattle.follows.specs.simulation.ClaimReady.{ClaimDone}
 use Rattle.follows.specs.simulation.Claims.{claim_post}
 use Rattle.follows.specs.counting.Totals.{Measure, edge_total, at, bundles_to, edges_to, to_regions, edgeless}
 use Rattle.follows.specs.counting.Counting.{Nine, Pre, Counted, Good, owed, counted_as, pre_after, pre_as}
-use Rattle.follows.specs.counting.CountClaim.{Claims}
-use Rattle.follows.specs.counting.CountScan.{live_of, count_pos}
-use Rattle.follows.specs.counting.CountRegion.{claim_counted}
+use Rattle.follows.proofs.counting.CountClaim.{Claims}
+use Rattle.follows.proofs.counting.CountScan.{live_of, count_pos}
+use Rattle.follows.proofs.counting.CountRegion.{claim_counted}
 use Rattle.state_words.specs.Sections.{word, set_starts}
 use Rattle.state_shown.specs.Sets.{ShowsBundle, no_bundle}
 use Rattle.state_shown.specs.laws.Finds.{bundle_in}

@@ -9,13 +9,13 @@ use Rattle.meaning.specs.Lists.{pick}
 use Rattle.format.specs.Valid.{Valid}
 use Rattle.nesting.specs.Nesting.{NestState, StepAnswer, done, turned_away, ClaimedRegion, Body, MaybeClaimedRegion, ok, err, defer_edge}
 use Rattle.nesting.specs.Nesting.{DeferredEdgeBundleSet, SplitOut, to_region}
-use Rattle.nesting.specs.lookups.ChainEnds.{ChainsEnd}
-use Rattle.nesting.specs.lookups.Contexts.{rooted_ends}
+use Rattle.nesting.proofs.lookups.ChainEnds.{ChainsEnd}
+use Rattle.nesting.proofs.lookups.Contexts.{rooted_ends}
 use Rattle.follows.specs.simulation.ValidUse.{usable_graph}
 use Rattle.follows.specs.simulation.World.{World}
 use Rattle.follows.specs.simulation.Invariant.{Inv}
 use Rattle.follows.specs.counting.Counting.{Counting, Pre, owed}
-use Rattle.follows.specs.counting.Attempts.{counting}
+use Rattle.follows.proofs.counting.Attempts.{counting}
 use Rattle.state_words.specs.Sections.{section, word, stored, kinds, head, start, size, used}
 use Rattle.state_words.specs.laws.Apart.{section_stored}
 use Rattle.state_shown.specs.laws.Stores.{part_length}

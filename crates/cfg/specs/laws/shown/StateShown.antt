@@ -14,7 +14,7 @@ use Rattle.nesting.specs.Nesting.{StructurizeRegionState, not_begun, in_progress
 use Rattle.nesting.specs.steps.RegionsLeft.{state_of, with_state}
 use Rattle.follows.specs.counting.Totals.{edge_total, edges_to, edgeless}
 use Rattle.follows.specs.counting.Counting.{Fine, busy, edges_waiting, edges_waiting_by, edges_waiting_at}
-use Rattle.follows.specs.counting.CountClaim.{edges_self}
+use Rattle.follows.proofs.counting.CountClaim.{edges_self}
 use Rattle.state_words.specs.declared.defined.Made.{Made}
 use Rattle.state_words.specs.Sections.{word, stored, kinds, bodies, backedges, children, set_starts, head, used}
 use Rattle.state_words.specs.laws.Apart.{section_other, stored_length}

@@ -17,9 +17,9 @@ use Rattle.follows.specs.simulation.Claims.{claim_post}
 use Rattle.follows.specs.simulation.Usable.{EdgeUsable}
 use Rattle.follows.specs.counting.Totals.{edge_total, edges_to}
 use Rattle.follows.specs.counting.Counting.{Nine}
-use Rattle.follows.specs.counting.CountClaim.{Claims}
-use Rattle.follows.specs.counting.CountScan.{aims, CaseCounted, edge_case_counted, first_target, next_target}
-use Rattle.follows.specs.counting.CountRegion.{claim_counted}
+use Rattle.follows.proofs.counting.CountClaim.{Claims}
+use Rattle.follows.proofs.counting.CountScan.{aims, CaseCounted, edge_case_counted, first_target, next_target}
+use Rattle.follows.proofs.counting.CountRegion.{claim_counted}
 use Rattle.state_words.specs.Sections.{word, levels, children, set_lengths, used}
 use Rattle.state_words.specs.laws.Apart.{section_other}
 use Rattle.state_regions.specs.RegionTables.{target_answer_stored, target_answer}

@@ -14,8 +14,8 @@ use Rattle.follows.specs.simulation.Claims.{claim_post}
 use Rattle.follows.specs.simulation.Scan.{FirstDone, split_out_matching_post, found_post}
 use Rattle.follows.specs.counting.Totals.{edge_total, edges_to, totals, edgeless}
 use Rattle.follows.specs.counting.Counting.{Nine, Pre, Good, owed, live_count, pre_after, pre_as}
-use Rattle.follows.specs.counting.CountScan.{ScanCounted, BodyCounted, scan_few, split_out_counted}
-use Rattle.follows.specs.counting.CountRegion.{claim_counted, turn_counted}
+use Rattle.follows.proofs.counting.CountScan.{ScanCounted, BodyCounted, scan_few, split_out_counted}
+use Rattle.follows.proofs.counting.CountRegion.{claim_counted, turn_counted}
 use Rattle.state_shown.specs.laws.RegionsKept.{body_stays}
 use Rattle.state_shown.specs.States.{ShowsBody}
 use Rattle.state_words.specs.declared.defined.Made.TheVariants as made

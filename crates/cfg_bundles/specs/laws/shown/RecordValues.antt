@@ -20,7 +20,7 @@ use Rattle.state_shown.specs.laws.ValueWords.{Ranged, ranged, in_const, in_false
 use Rattle.state_shown.specs.laws.ValueWords.{in_none}
 use Rattle.state_shown.specs.laws.ValueWords.{value_undef, value_input}
 use Rattle.state_shown.specs.Sets.{Names}
-use Rattle.format.specs.laws.UndefinedTypes.{TypeRead}
+use Rattle.format.proofs.laws.UndefinedTypes.{TypeRead}
 use Rattle.cfg_bundles.specs.EdgesAndCases.{record_word, padded_by, padded}
 use Rattle.nesting.specs.Nesting.{most_regions}
 use Rattle.state_words.specs.Values.{input_from, instr_from, instr_word_at}

@@ -12,7 +12,7 @@ use Rattle.record.specs.Stands.{Stands}
 use Rattle.nesting.specs.Nesting as nesting
 use Rattle.nesting.specs.Nesting.{DeferredTarget, to_region, to_return}
 use Rattle.fields.specs.ByNumber.{end_values}
-use Rattle.format.specs.laws.UndefinedTypes.{TypeRead}
+use Rattle.format.proofs.laws.UndefinedTypes.{TypeRead}
 use Rattle.fields.specs.laws.UndefinedTypes.{end_types_read}
 
 pub record SmallTypes (g : Graph) : Type 0 where

@@ -13,10 +13,11 @@ use Rattle.nesting.specs.Nesting.{DeferredEdgeBundle, DeferredEdgeBundleSet, Def
 use Rattle.nesting.specs.Nesting.{split_out_target, LazyCond, NestState, StepAnswer, done, turned_away, define_region, rewrite_values}
 use Rattle.nesting.specs.Nesting.{ClaimedRegion, LoopInputs, no_inputs, take_inputs, loop_node, structurize_loop, most_regions}
 use Rattle.nesting.specs.Nesting.{most_regions, exit_targets}
-use Rattle.nesting.specs.steps.Keeps.{loop_claimed, claim_body_keeps}
+use Rattle.nesting.proofs.steps.Keeps.{loop_claimed, claim_body_keeps}
 use Rattle.nesting.specs.steps.Post.{Post}
-use Rattle.nesting.specs.steps.StatesKept.{KeepsStates, states_kept_steady, states_kept_log}
-use Rattle.nesting.specs.lookups.ChainEnds.{ChainsEnd}
+use Rattle.nesting.specs.steps.StatesKept.{KeepsStates}
+use Rattle.nesting.proofs.steps.StatesSteady.{states_kept_steady, states_kept_log}
+use Rattle.nesting.proofs.lookups.ChainEnds.{ChainsEnd}
 use Rattle.record.specs.Stands.{OfRecord}
 use Rattle.state_words.specs.declared.defined.Defined.{Defined}
 use Rattle.state_words.specs.declared.defined.Defined.TheVariants.{Number, Full}

@@ -12,10 +12,11 @@ use Rattle.nesting.specs.Nesting as nesting
 use Rattle.nesting.specs.Nesting.{MaybeClaimedRegion, ok, err, DeferredTarget, NestState, StepAnswer, done, turned_away, follow, give, Body}
 use Rattle.nesting.specs.Nesting.{region_body, join, DefinedSelect, DeferredEdgeBundleSet, PlannedBundle, case_regions, define_select}
 use Rattle.nesting.specs.Nesting.{select_if, emit, shared_bundle, any_needs_select, structurize_select}
-use Rattle.nesting.specs.lookups.ChainEnds.{ChainsEnd}
+use Rattle.nesting.proofs.lookups.ChainEnds.{ChainsEnd}
 use Rattle.nesting.specs.steps.Post.{Post}
-use Rattle.nesting.specs.steps.Keeps.{select_if_keeps}
-use Rattle.nesting.specs.steps.StatesKept.{KeepsStates, states_kept_steady}
+use Rattle.nesting.proofs.steps.Keeps.{select_if_keeps}
+use Rattle.nesting.specs.steps.StatesKept.{KeepsStates}
+use Rattle.nesting.proofs.steps.StatesSteady.{states_kept_steady}
 use Rattle.state_words.specs.declared.defined.Defined.{Defined}
 use Rattle.state_words.specs.declared.defined.Defined.TheVariants.{Number, Full as Refused}
 use Rattle.state_words.specs.Sections as sections

@@ -14,8 +14,9 @@ use Rattle.nesting.specs.Nesting.{MaybeClaimedRegion, err, value, Body, deferred
 use Rattle.nesting.specs.Nesting.{structurize_select_into, Claim, SplitOut, defer_edge, unclaimed_edge, edge_case, split_out_or}
 use Rattle.nesting.specs.Nesting.{by_control_inst, target_regions, split_out_matching}
 use Rattle.nesting.specs.steps.Post.{Post, map_post, bind}
-use Rattle.nesting.specs.steps.Keeps.{define_node_keeps}
-use Rattle.nesting.specs.steps.StatesKept.{KeepsStates, states_kept_refl, states_kept_steady}
+use Rattle.nesting.proofs.steps.Keeps.{define_node_keeps}
+use Rattle.nesting.specs.steps.StatesKept.{KeepsStates, states_kept_refl}
+use Rattle.nesting.proofs.steps.StatesSteady.{states_kept_steady}
 use Rattle.nesting.specs.steps.RegionsLeft.{state_of}
 use Rattle.meaning.specs.facts.Sums.{total_one, total_add, total_less, total_each}
 use Rattle.follows.specs.counting.Totals.{Measure, edge_total, totals, at, bundles_to, edges_to, to_regions, edgeless, SetFits}
@@ -23,7 +24,7 @@ use Rattle.follows.specs.counting.Totals.{FitsAll, total_append}
 use Rattle.follows.specs.counting.SelectTotals.{SelectedTotals, append_total, select_into_total}
 use Rattle.follows.specs.counting.Counting.{Counting, Nine, live_count, live_one, Good, CountInv, Pre, Counted, counted_then}
 use Rattle.follows.specs.counting.Counting.{counted_as, counted_still, pre_after, pre_as}
-use Rattle.follows.specs.counting.CountClaim.{Claims, GoodClaim, in_hand, one_less}
+use Rattle.follows.proofs.counting.CountClaim.{Claims, GoodClaim, in_hand, one_less}
 
 module _ (K : Counting) where
   abbrev pub ClaimCounted : ℕ → Claim → Type 0

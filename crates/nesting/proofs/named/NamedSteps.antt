@@ -12,7 +12,7 @@ use Rattle.nesting.specs.Nesting.{materialize_lazy_cond, materialize_lazy_conds}
 use Rattle.nesting.specs.AnswerValues.{Named, AllNamed, CondNamed, CondsNamed}
 use Rattle.nesting.specs.steps.Post.{Post, bind, map_post, when_room}
 use Rattle.nesting.specs.steps.RegionsLeft.{AnyRefusal}
-use Rattle.nesting.specs.named.NamedLookUps.{RewritesNamed, GoodLookUp}
+use Rattle.nesting.proofs.named.NamedLookUps.{RewritesNamed, GoodLookUp}
 
 abbrev pub outputs_made : NestState → ℕ
 outputs_made s = length s.node_outputs

@@ -7,9 +7,9 @@ use Rattle.meaning.specs.Graph.{Value, const, input, instr, output, bool, undef,
 use Rattle.nesting.specs.Nesting.{InputRewrite, renumber_to, replace_by, RegionInputRewrites, replace_with, renumber_or_replace_with}
 use Rattle.nesting.specs.Nesting.{RewriteEntry, rewrites_of, changes_again}
 use Rattle.nesting.specs.lookups.Rewriting.{rewrite}
-use Rattle.nesting.specs.lookups.ChainSteps.{next_value, after_steps, stops_after, chain_steps}
-use Rattle.nesting.specs.lookups.ChainEnds.{names, RewritesTo, ChainsEnd, NamesInput, RewritePath, one, path_then, acyclic}
-use Rattle.nesting.specs.lookups.ChainEnds.{rewrite_enough}
+use Rattle.nesting.proofs.lookups.ChainSteps.{next_value, after_steps, stops_after, chain_steps}
+use Rattle.nesting.proofs.lookups.ChainEnds.{names, RewritesTo, ChainsEnd, NamesInput, RewritePath, one, path_then, acyclic}
+use Rattle.nesting.proofs.lookups.ChainEnds.{rewrite_enough}
 
 -- A value that names no input of r is not a marked one of r.
 not_held : (u : Value) (r k : ℕ) → (names u ≡ some r → ⊥) → same_value u (held r k) ≡ false

@@ -18,8 +18,8 @@ use Rattle.follows.specs.Statements.{is_whole, Followed, most_attempts, FewAttem
 use Rattle.follows.specs.Statements.{by_figure}
 use Rattle.follows.specs.simulation.Follows.{follows}
 use Rattle.follows.specs.cost.Bounded.{bounded}
-use Rattle.follows.specs.counting.Attempts.{attempts}
-use Rattle.follows.specs.sound.Sound.{sound}
+use Rattle.follows.proofs.counting.Attempts.{attempts}
+use Rattle.follows.proofs.sound.Sound.{sound}
 use Rattle.follows.specs.examples.CaseForms.{A_accepted, A_valid, A_form, A_nested, A_nests, B_accepted, B_valid, B_loop, B_nested}
 use Rattle.follows.specs.examples.CaseForms.{B_nests}
 use Rattle.meaning.specs.Lists.{Within, bit}

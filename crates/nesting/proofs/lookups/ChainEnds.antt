@@ -11,7 +11,7 @@ use Rattle.meaning.specs.facts.Tests.{clash}
 use Rattle.nesting.specs.Nesting.{InputRewrite, renumber_to, replace_by, RegionInputRewrites, replace_with, renumber_or_replace_with}
 use Rattle.nesting.specs.Nesting.{RewriteEntry, rewrites_of, chain_fuel, look_up_chain, look_up}
 use Rattle.nesting.specs.lookups.Rewriting.{rewrite, meets}
-use Rattle.nesting.specs.lookups.ChainSteps.{next_value, Stops, EndsIn, ends_later, chain_same, meets_same}
+use Rattle.nesting.proofs.lookups.ChainSteps.{next_value, Stops, EndsIn, ends_later, chain_same, meets_same}
 use Rattle.meaning.specs.Lists.{pick}
 
 -- the region whose input a value is, marked or not

@@ -12,8 +12,8 @@ use Rattle.format.specs.References.{instructions, return_types, behind_all}
 use Rattle.format.specs.Valid.{Usable, Passed, ValidInstrs, ValidEdge, ValidEnd, ValidRegion, Valid}
 use Rattle.nesting.specs.Nesting.{Nested, structurize_func}
 use Rattle.nesting.specs.AnswerValues.{Named, AllNamed, InstrsNamed, NestedNamed}
-use Rattle.nesting.specs.named.NamedClaims.{EndNamed, RegionNamed}
-use Rattle.nesting.specs.named.NamedAnswer.{answer_named}
+use Rattle.nesting.proofs.named.NamedClaims.{EndNamed, RegionNamed}
+use Rattle.nesting.proofs.named.NamedAnswer.{answer_named}
 
 module _ (M : ℕ) (g : Graph) (r : ℕ) where
   usable_named : (k : ℕ) (v : Value) → Usable g r k v → Named M v

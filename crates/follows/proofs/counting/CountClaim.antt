@@ -13,9 +13,10 @@ use Rattle.nesting.specs.Nesting.{set_state, define_region, define_node, rewrite
 use Rattle.nesting.specs.Nesting.{get_edge_bundle_by_target, split_out_target, ClaimedRegion, no_inputs, take_inputs, add_exit_edge}
 use Rattle.nesting.specs.Nesting.{structurize_loop, backedge_of, claim_body, claim_by_state}
 use Rattle.nesting.specs.steps.Post.{Post, map_post, bind}
-use Rattle.nesting.specs.steps.Keeps.{loop_claimed, with_entry, define_region_keeps, define_node_keeps, rewrite_values_keeps}
-use Rattle.nesting.specs.steps.Keeps.{materialize_keeps}
-use Rattle.nesting.specs.steps.StatesKept.{KeepsStates, states_kept_refl, states_kept_then, states_kept_steady}
+use Rattle.nesting.proofs.steps.Keeps.{loop_claimed, with_entry, define_region_keeps, define_node_keeps, rewrite_values_keeps}
+use Rattle.nesting.proofs.steps.Keeps.{materialize_keeps}
+use Rattle.nesting.specs.steps.StatesKept.{KeepsStates, states_kept_refl, states_kept_then}
+use Rattle.nesting.proofs.steps.StatesSteady.{states_kept_steady}
 use Rattle.nesting.specs.steps.RegionsLeft.{state_of, with_state, not_begun_one, count_set}
 use Rattle.follows.specs.simulation.Bundles.{found_in}
 use Rattle.follows.specs.counting.Totals.{edge_total, at, bundles_to, edges_to, edgeless}

@@ -7,9 +7,9 @@ use Rattle.format.specs.Store.{Answer, accepted, refused}
 use Rattle.format.specs.Accept.{accept}
 use Rattle.format.specs.Valid.{Valid}
 use Rattle.format.specs.laws.AcceptValid.{accept_valid}
-use Rattle.format.specs.laws.Refusals.{IfRefused, then_refused, refusal_range}
-use Rattle.nesting.specs.laws.NoMarks.{no_marks}
-use Rattle.nesting.specs.named.ValidNamed.{nested_named}
+use Rattle.format.proofs.laws.Refusals.{IfRefused, then_refused, refusal_range}
+use Rattle.nesting.proofs.laws.NoMarks.{no_marks}
+use Rattle.nesting.proofs.named.ValidNamed.{nested_named}
 use Rattle.meaning.specs.facts.Tests.{clash}
 use Rattle.format.specs.laws.WellRead.{step}
 use Rattle.nesting.specs.Nesting.{Nested, structurize_func}
@@ -18,7 +18,7 @@ use Rattle.follows.specs.Statements.{HasForm, is_whole, is_closed, SoundSheet, S
 use Rattle.follows.specs.Statements.{Refused}
 use Rattle.follows.specs.simulation.Follows.{follows}
 use Rattle.follows.specs.cost.Bounded.{bounded}
-use Rattle.follows.specs.counting.Attempts.{attempts, refused_nine}
+use Rattle.follows.proofs.counting.Attempts.{attempts, refused_nine}
 use Rattle.meaning.specs.Lists.{Within}
 
 -- ---- what the sheet shows of a form

@@ -19,10 +19,10 @@ use Rattle.nesting.specs.Nesting.{any_non_empty_case, look_up_bundle, look_up_ca
 use Rattle.nesting.specs.Nesting.{DefinedSelect, define_select, emit_inputs, emit_condition, emit, shared_bundle, select_if}
 use Rattle.nesting.specs.Nesting.{replace_inputs, structurize_select, structurize_select_by, structurize_select_into}
 use Rattle.nesting.specs.AnswerValues.{Named, AllNamed, NodesNamed, CasesNamed, CondNamed, CondsNamed, BundleNamed, SetNamed}
-use Rattle.nesting.specs.named.NamedLookUps.{CaseNamed, at_place, join_named, look_up_named, look_ups_named}
-use Rattle.nesting.specs.named.NamedSteps.{KeepsNamed, then_keeps, next_keeps, from, give_keeps, define_region_named}
-use Rattle.nesting.specs.named.NamedSteps.{define_node_named}
-use Rattle.nesting.specs.named.NamedSteps.{define_merge_named, define_output_named, insert_rewrites_named, materialize_named}
+use Rattle.nesting.proofs.named.NamedLookUps.{CaseNamed, at_place, join_named, look_up_named, look_ups_named}
+use Rattle.nesting.proofs.named.NamedSteps.{KeepsNamed, then_keeps, next_keeps, from, give_keeps, define_region_named}
+use Rattle.nesting.proofs.named.NamedSteps.{define_node_named}
+use Rattle.nesting.proofs.named.NamedSteps.{define_merge_named, define_output_named, insert_rewrites_named, materialize_named}
 
 module _ (M : ℕ) where
   -- ---- what is planned

@@ -30,8 +30,8 @@ use Rattle.follows.specs.simulation.ValidUse.{usable_graph, reachable_region}
 use Rattle.meaning.specs.facts.Sums.{total_same, total_add, total_each}
 use Rattle.follows.specs.counting.Totals.{edges_to}
 use Rattle.follows.specs.counting.Counting.{Counting, Nine, busy, owed_by, edges_waiting_by, owed, edges_waiting, Pre}
-use Rattle.follows.specs.counting.CountClaim.{Claims}
-use Rattle.follows.specs.counting.CountRegion.{claim_counted}
+use Rattle.follows.proofs.counting.CountClaim.{Claims}
+use Rattle.follows.proofs.counting.CountRegion.{claim_counted}
 use Rattle.meaning.specs.facts.Elements.{numbered_map}
 
 pub incoming_at : (g : Graph) (r : ℕ) → r < length g.regions → get_or (incoming_edge_counts g) r 0 ≡ incoming_edge_count g (reachable g) r

@@ -15,7 +15,7 @@ use Rattle.format.specs.References.{named_right, of_type, reads_right, types_rig
 use Rattle.format.specs.References.{target_right, edge_right, first_edges, exits_right, region_right, regions_right, references}
 use Rattle.format.specs.Accept.{accept}
 use Rattle.format.specs.laws.WellRead.{head_read, record_read}
-use Rattle.format.specs.laws.ReadingStops.{StopsReading, region_stops, head_stops}
+use Rattle.format.proofs.laws.ReadingStops.{StopsReading, region_stops, head_stops}
 use Rattle.format.specs.Refusals.{wrong_length, wrong_block_number, wrong_check, wrong_word_count, wrong_reference, wrong_type}
 use Rattle.format.specs.Refusals.{exit_named_twice, out_of_range}
 use Rattle.meaning.specs.facts.Tests.{and_both}

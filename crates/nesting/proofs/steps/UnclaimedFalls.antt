@@ -16,8 +16,9 @@ use Rattle.nesting.specs.Nesting.{Body, convergent_cases, blocks_of, Claim, Spli
 use Rattle.nesting.specs.Nesting.{claim_body, claim_by_state, by_control_inst, resolve_by, target_regions, split_out_matching}
 use Rattle.nesting.specs.Nesting.{resolve_deferred, structurize_region, try_claim_edge_bundle, add_attempt}
 use Rattle.nesting.specs.steps.Post.{Post, map_post, bind}
-use Rattle.nesting.specs.steps.Keeps.{structurize_select_by_keeps, claim_body_keeps, by_control_inst_keeps}
-use Rattle.nesting.specs.steps.StatesKept.{KeepsStates, states_kept_steady, states_kept_log}
+use Rattle.nesting.proofs.steps.Keeps.{structurize_select_by_keeps, claim_body_keeps, by_control_inst_keeps}
+use Rattle.nesting.specs.steps.StatesKept.{KeepsStates}
+use Rattle.nesting.proofs.steps.StatesSteady.{states_kept_steady, states_kept_log}
 use Rattle.nesting.specs.steps.RegionsLeft.{state_of, with_state, not_begun_one, unclaimed_one, count_states, count_set}
 use Rattle.nesting.specs.steps.RegionsLeft.{FewerUnclaimed}
 use Rattle.nesting.specs.steps.RegionsLeft.{fewer_refl, fewer_then, fewer_less, fewer_still, AnyRefusal, claimed_count, ClaimFewer}

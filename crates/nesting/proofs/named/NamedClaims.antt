@@ -21,13 +21,13 @@ use Rattle.nesting.specs.Nesting.{SplitOut, backedge_of, defer_edge, unclaimed_e
 use Rattle.nesting.specs.Nesting.{claim_by_state, by_control_inst, resolve_by, target_regions, split_out_matching, resolve_deferred}
 use Rattle.nesting.specs.Nesting.{structurize_region, try_claim_edge_bundle, count_to, structurize_select_into}
 use Rattle.nesting.specs.AnswerValues.{Named, AllNamed, InstrsNamed, NodesNamed, CondNamed, BundleNamed, SetNamed}
-use Rattle.nesting.specs.steps.Keeps.{loop_claimed}
-use Rattle.nesting.specs.named.NamedLookUps.{ClaimedNamed, CaseNamed, StateNamed, RewriteNamed, join_named, look_up_named}
-use Rattle.nesting.specs.named.NamedLookUps.{look_ups_named}
-use Rattle.nesting.specs.named.NamedSteps.{KeepsNamed, then_keeps, next_keeps, from, give_keeps, define_region_named}
-use Rattle.nesting.specs.named.NamedSteps.{define_node_named}
-use Rattle.nesting.specs.named.NamedSteps.{insert_rewrites_named, materialize_named}
-use Rattle.nesting.specs.named.NamedSelects.{BundleMaybe, bundle_named, condition_named, BodyNamed, append_named, select_into_named}
+use Rattle.nesting.proofs.steps.Keeps.{loop_claimed}
+use Rattle.nesting.proofs.named.NamedLookUps.{ClaimedNamed, CaseNamed, StateNamed, RewriteNamed, join_named, look_up_named}
+use Rattle.nesting.proofs.named.NamedLookUps.{look_ups_named}
+use Rattle.nesting.proofs.named.NamedSteps.{KeepsNamed, then_keeps, next_keeps, from, give_keeps, define_region_named}
+use Rattle.nesting.proofs.named.NamedSteps.{define_node_named}
+use Rattle.nesting.proofs.named.NamedSteps.{insert_rewrites_named, materialize_named}
+use Rattle.nesting.proofs.named.NamedSelects.{BundleMaybe, bundle_named, condition_named, BodyNamed, append_named, select_into_named}
 use Rattle.format.specs.Refusals.{never}
 
 module _ (M : ℕ) where

@@ -22,10 +22,10 @@ use Rattle.nesting.specs.AnswerValues.{Named, AllNamed, InstrsNamed, NodeNamed, 
 use Rattle.nesting.specs.AnswerValues.{PieceNamed, NestedNamed}
 use Rattle.nesting.specs.steps.Post.{Post}
 use Rattle.nesting.specs.steps.RegionsLeft.{AnyRefusal}
-use Rattle.nesting.specs.named.NamedLookUps.{StateNamed, OutputsNamed, GoodLookUp, at_place, look_up_last_named, look_ups_named}
-use Rattle.nesting.specs.named.NamedSteps.{NamedKept}
-use Rattle.nesting.specs.named.NamedSelects.{condition_named}
-use Rattle.nesting.specs.named.NamedClaims.{ClaimMaybe, RegionNamed, try_claim_named}
+use Rattle.nesting.proofs.named.NamedLookUps.{StateNamed, OutputsNamed, GoodLookUp, at_place, look_up_last_named, look_ups_named}
+use Rattle.nesting.proofs.named.NamedSteps.{NamedKept}
+use Rattle.nesting.proofs.named.NamedSelects.{condition_named}
+use Rattle.nesting.proofs.named.NamedClaims.{ClaimMaybe, RegionNamed, try_claim_named}
 
 module _ (M : ℕ) where
   -- ---- the last rewriting

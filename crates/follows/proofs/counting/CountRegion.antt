@@ -22,9 +22,9 @@ use Rattle.follows.specs.counting.SelectTotals.{select_into_total}
 use Rattle.follows.specs.counting.Counting.{Counting, Nine, busy, live_count, edges_leaving, owed_by, edges_waiting_by, edges_waiting}
 use Rattle.follows.specs.counting.Counting.{owed_set, edges_waiting_set, Good, Pre, Counted, counted_then, counted_as, counted_still}
 use Rattle.follows.specs.counting.Counting.{pre_after, pre_as, inv_set, busy_else, busy_here}
-use Rattle.follows.specs.counting.CountClaim.{edges_self, one_less, claim_by_state_counted}
-use Rattle.follows.specs.counting.CountScan.{ClaimCounted, aims, AllLive, BodyCounted, ScanCounted, selected_counted}
-use Rattle.follows.specs.counting.CountScan.{by_control_inst_counted, scan_few, target_regions_counted, split_out_counted}
+use Rattle.follows.proofs.counting.CountClaim.{edges_self, one_less, claim_by_state_counted}
+use Rattle.follows.proofs.counting.CountScan.{ClaimCounted, aims, AllLive, BodyCounted, ScanCounted, selected_counted}
+use Rattle.follows.proofs.counting.CountScan.{by_control_inst_counted, scan_few, target_regions_counted, split_out_counted}
 
 module _ (K : Counting) where
   pub targets_live : (q : ℕ) → is_in q K.live ≡ true → AllLive K (edges_of (region K.g q).terminator)

@@ -12,12 +12,12 @@ use Rattle.nesting.specs.Nesting.{set_state, condition_in, count_to, ok, err, la
 use Rattle.nesting.specs.Nesting.{structurize_select_into, Claim, SplitOut, by_control_inst, resolve_by, target_regions}
 use Rattle.nesting.specs.Nesting.{split_out_matching, resolve_deferred, structurize_region}
 use Rattle.nesting.specs.steps.Post.{Post}
-use Rattle.nesting.specs.steps.Keeps.{structurize_select_by_keeps, by_control_inst_keeps}
-use Rattle.nesting.specs.steps.StatesKept.{states_kept_steady, states_kept_log}
+use Rattle.nesting.proofs.steps.Keeps.{structurize_select_by_keeps, by_control_inst_keeps}
+use Rattle.nesting.proofs.steps.StatesSteady.{states_kept_steady, states_kept_log}
 use Rattle.nesting.specs.steps.RegionsLeft.{state_of, with_state, unclaimed_one, unclaimed_count, unclaimed_most, count_set}
 use Rattle.nesting.specs.steps.RegionsLeft.{FewerUnclaimed}
 use Rattle.nesting.specs.steps.RegionsLeft.{fewer_still, AnyRefusal, claimed_count, ClaimFewer}
-use Rattle.nesting.specs.steps.UnclaimedFalls.{target_regions_fewer, split_out_fewer}
+use Rattle.nesting.proofs.steps.UnclaimedFalls.{target_regions_fewer, split_out_fewer}
 
 -- Two ways to go on that agree on what the step gives.
 pub follow_same : {A B : Type 0} {Q : ℕ → ℕ → Type 0} {P : A → NestState → Type 0} (x : StepAnswer A) (k k' : A → Step B) → Post Q P x

@@ -1,0 +1,3 @@
+pub mod counting
+pub mod sound
+pub mod examples

@@ -1,0 +1,4 @@
+pub mod CountClaim
+pub mod CountScan
+pub mod CountRegion
+pub mod Attempts

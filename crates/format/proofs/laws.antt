@@ -1,0 +1,3 @@
+pub mod UndefinedTypes
+pub mod ReadingStops
+pub mod Refusals

@@ -1,0 +1,4 @@
+pub mod steps
+pub mod named
+pub mod laws
+pub mod lookups

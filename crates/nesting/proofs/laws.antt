@@ -1,0 +1,2 @@
+pub mod NoMarks
+pub mod HeldStays

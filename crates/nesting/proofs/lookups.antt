@@ -1,0 +1,4 @@
+pub mod ChainSteps
+pub mod ChainEnds
+pub mod Contexts
+pub mod SecondLookUp

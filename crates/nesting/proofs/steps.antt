@@ -1,0 +1,4 @@
+pub mod Keeps
+pub mod UnclaimedFalls
+pub mod ScanEnds
+pub mod StatesSteady
