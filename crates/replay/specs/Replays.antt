@@ -3,7 +3,6 @@ use Rattle.std.specs.Prelude.{◌≡◌, List, [], ℕ}
 use Rattle.std.specs.declared.option.Option.{Option}
 use Rattle.std.specs.Io.KnownBytes.{Consumes}
 use Rattle.vectors.specs.declared.Tally.{Tally}
-use Rattle.vectors.specs.declared.VectorReader.{VectorReader}
 use Rattle.vectors.specs.Reading.{read_bytes, reading_of, at_start}
 use Rattle.replay.specs.Agrees.{agrees}
 

@@ -1,12 +1,9 @@
-use mathlib.Core.Path.{◌≡◌, sym, ap, ◌∙◌}
-use Prim.Native.Nat.{◌≤◌}
+use mathlib.Core.Path.{◌≡◌, sym, ◌∙◌}
 use native.Mathlib.Omega.{arith}
 use lib.ListN.{length, take}
 use lib.Seq.{length-take-le}
 use Rattle.vectors.proofs.Laws.{behind_within, parted}
-use Rattle.replay.specs.Agrees.{answer_too_long, kept_whole}
-use Rattle.replay_sheets.proofs.Nested.{answer_within}
-use borrow.Author.Rules.{rules}
+use Rattle.replay.specs.Agrees.{kept_whole}
 use Rattle.replay.proofs.agrees.Goals as goal
 
 pub slice_bounds-rest-count : goal.slice_bounds-rest-count

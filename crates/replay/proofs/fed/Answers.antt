@@ -1,7 +1,6 @@
 use mathlib.Core.Path.{sym, ◌∙◌}
 use Rattle.replay.specs.Agrees.{agrees}
 use Rattle.vectors.proofs.Laws.{ended, kept}
-use borrow.Author.Rules.{rules}
 use Rattle.replay.proofs.fed.Goals as goal
 
 pub returns-then-ends : goal.returns-then-ends

@@ -1,11 +1,9 @@
-use mathlib.Core.Path.{◌≡◌, refl, sym, ap, ◌∙◌}
-use Prim.Native.Nat.{◌-◌, ◌≤◌}
+use mathlib.Core.Path.{sym, ap, ◌∙◌}
 use native.Mathlib.Omega.{arith}
-use lib.ListN.{length, drop, drop_of_length-le}
-use Rattle.vectors.specs.Reading.{read_bytes, reading_of}
+use lib.ListN.{drop_of_length-le}
+use Rattle.vectors.specs.Reading.{read_bytes}
 use Rattle.vectors.proofs.Laws.{read_next}
 use Rattle.replay.specs.Agrees.{agrees}
-use borrow.Author.Rules.{rules}
 use Rattle.replay.proofs.fed_all.Goals as goal
 
 pub loop-i-preserved : goal.loop-i-preserved

@@ -1,11 +1,8 @@
-use mathlib.Core.Path.{◌≡◌, refl, sym, ap, ◌∙◌}
+use mathlib.Core.Path.{◌≡◌}
 use Prim.Native.Nat.{◌-◌, ◌≤◌}
-use native.Mathlib.Omega.{arith}
-use lib.ListN.{length, drop, drop_of_length-le}
+use lib.ListN.{length, drop}
 use Rattle.vectors.specs.Reading.{read_bytes, reading_of}
-use Rattle.vectors.proofs.Laws.{read_next}
 use Rattle.replay.specs.Agrees.{agrees}
-use borrow.Author.Rules.{rules}
 use Rattle.replay.proofs.fed_all.Given as goal
 
 abbrev pub invariant-loop-i : goal.invariant-loop-i

@@ -1,7 +1,5 @@
 use native.Mathlib.Omega.{arith}
-use borrow.Author.Tests.{lt-ltb, le-ltb}
 use Rattle.vectors.proofs.Laws.{behind_within}
-use borrow.Author.Rules.{rules}
 use Rattle.replay.proofs.of_sheet.Goals as goal
 
 pub bounds-vector-at : goal.bounds-vector-at

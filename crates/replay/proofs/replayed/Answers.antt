@@ -1,4 +1,4 @@
-use Rattle.std.proofs.Common.{List, [], ◌++◌, ℕ, take, refl, sym, ap, ◌∙◌, rules}
+use Rattle.std.proofs.Common.{[], ◌++◌, take, refl, sym, ap, ◌∙◌, rules}
 use Rattle.std.proofs.KnownBytes.{Consumes-nil, Consumes-trans}
 use Rattle.vectors.specs.Reading.{read_bytes, reading_of, at_start, in_pieces}
 use Rattle.replay.specs.Agrees.{agrees}

@@ -3,7 +3,6 @@ use native.Mathlib.Omega.{arith}
 use Rattle.text_nest.specs.laws.Printing.{sheet_printed, refusal_printed}
 use Rattle.text_nest.proofs.print.Goals as goal
 
-
 pub returns-in-Sheet : goal.returns-in-Sheet
 returns-in-Sheet c =
     sheet_printed (rw c.in-Sheet.is at c.nest-answer.ensures) refl

@@ -1,14 +1,13 @@
-use mathlib.Core.Path.{◌≡◌, sym, ap, ◌∙◌}
+use mathlib.Core.Path.{sym, ap, ◌∙◌}
 use native.Mathlib.Omega.{arith}
-use lib.ListN.{length, take, length-take}
+use lib.ListN.{take}
 use lib.Seq.{length-take-le}
 use Rattle.vectors.specs.Parts.{hex_bytes}
 use Rattle.vectors.specs.Same.{same_list}
 use Rattle.vectors.proofs.Laws.{behind_within}
 use Rattle.replay_sheets.specs.Compared.{as_shown}
-use Rattle.replay_sheets.proofs.Nested.{lent_length, printed_never_full, printed_front, words_kept, behind_line, words_differ}
+use Rattle.replay_sheets.proofs.Nested.{printed_front, words_kept, behind_line, words_differ}
 use Rattle.replay_sheets.proofs.Nested.{text_decides}
-use borrow.Author.Rules.{rules}
 use Rattle.replay_sheets.proofs.sheets.is_nested.Goals as goal
 
 pub slice_bounds-decode-end : goal.slice_bounds-decode-end

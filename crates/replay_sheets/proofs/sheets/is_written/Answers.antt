@@ -1,11 +1,6 @@
-use mathlib.Core.Path.{◌≡◌, refl, sym, ◌∙◌}
-use Prim.Native.Nat.{◌-◌, ◌≤◌}
+use mathlib.Core.Path.{sym, ◌∙◌}
 use native.Mathlib.Omega.{arith}
-use lib.ListN.{length, take, drop}
-use Rattle.vectors.specs.Same.{same_list}
-use Rattle.replay_sheets.specs.Sheets.{words_from_bytes, put_over}
 use Rattle.replay_sheets.proofs.Words.{as_long, differs_here, same_here, same_to_end}
-use borrow.Author.Rules.{rules}
 use Rattle.replay_sheets.proofs.sheets.is_written.Goals as goal
 
 pub returns-then-out-i : goal.returns-then-out-i

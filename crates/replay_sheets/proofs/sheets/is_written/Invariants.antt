@@ -1,11 +1,8 @@
-use mathlib.Core.Path.{◌≡◌, refl, sym, ◌∙◌}
+use mathlib.Core.Path.{◌≡◌}
 use Prim.Native.Nat.{◌-◌, ◌≤◌}
-use native.Mathlib.Omega.{arith}
 use lib.ListN.{length, take, drop}
 use Rattle.vectors.specs.Same.{same_list}
 use Rattle.replay_sheets.specs.Sheets.{words_from_bytes, put_over}
-use Rattle.replay_sheets.proofs.Words.{as_long, differs_here, same_here, same_to_end}
-use borrow.Author.Rules.{rules}
 use Rattle.replay_sheets.proofs.sheets.is_written.Given as goal
 
 abbrev pub invariant-loop-i : goal.invariant-loop-i

@@ -1,5 +1,4 @@
 use Rattle.replay_sheets.proofs.Words.{as_lent, as_listed}
-use borrow.Author.Rules.{rules}
 use Rattle.replay_sheets.proofs.sheets.word_at.Goals as goal
 
 pub returns-then-size-i : goal.returns-then-size-i
