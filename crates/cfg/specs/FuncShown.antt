@@ -5,7 +5,7 @@ use Rattle.meaning.specs.Runs.{⟨⟩}
 use Rattle.format.specs.Store.{Answer, accepted, refused}
 use Rattle.nesting.specs.Nesting.{Nested, Outcome, untouched, whole, closed, leftover, outcome_of, conclude_by, NestState}
 use Rattle.nesting.specs.Nesting.{initial_state, Body}
-use Rattle.nesting.proofs.lookups.ChainEnds.{ChainsEnd}
+use Rattle.nesting.specs.lookups.ChainEnds.{ChainsEnd}
 use Rattle.state_shown.specs.Front.{SameFront}
 use Rattle.state_shown.specs.States.{ShowsState, ShowsBody}
 use Rattle.cfg.specs.declared.func.Nested as code

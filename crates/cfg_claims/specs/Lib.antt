@@ -1,3 +1,2 @@
 pub mod SplitOut
 pub mod Claims
-pub mod laws

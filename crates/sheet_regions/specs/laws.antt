@@ -1,4 +1,3 @@
 pub mod NumbersLaws
-pub mod ListsLaws
 pub mod KeptLaws
 pub mod RegionLineLaws

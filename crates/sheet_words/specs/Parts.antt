@@ -8,7 +8,7 @@ use Rattle.nesting.specs.Nesting.{NestState, NodeOutput, LookUp, plain, ◌⊛�
 use Rattle.nesting.specs.Nesting.{look_up_cases, DeferredEdgeBundle, DeferredEdgeBundleSet, look_up_bundle, condition_in}
 use Rattle.nesting.specs.Sheet as sheet
 use Rattle.nesting.specs.SheetNumbers.{lead_region, lead_block, lead_select, lead_loop, lead_exit}
-use Rattle.nesting.proofs.lookups.ChainEnds.{ChainsEnd}
+use Rattle.nesting.specs.lookups.ChainEnds.{ChainsEnd}
 use Rattle.nesting.specs.decoding.Lines.{words_of}
 use Rattle.state_shown.specs.States.{ShowsState}
 use Rattle.sheet_words.specs.PutInFront.{Part}

@@ -7,7 +7,8 @@ use Rattle.meaning.specs.Graph.{Graph, Value}
 use Rattle.meaning.specs.Runs.{Given, base_env}
 use Rattle.format.specs.Valid.{Valid}
 use Rattle.nesting.specs.Nesting.{ClaimedRegion, try_claim_edge_bundle, initial_state, IncomingEdgeCount, NestState, RewriteEntry, done}
-use Rattle.nesting.proofs.lookups.ChainEnds.{ChainsEnd, end_before}
+use Rattle.nesting.specs.lookups.ChainEnds.{ChainsEnd}
+use Rattle.nesting.proofs.lookups.ChainEnds.{end_before}
 use Rattle.nesting.proofs.lookups.Contexts.{rooted_ends}
 use Rattle.follows.specs.counting.Reach.{entry_reachable}
 use Rattle.follows.specs.simulation.ValidUse.{usable_graph}

@@ -3,7 +3,8 @@ use Rattle.std.proofs.Math.Option.{none}
 use Rattle.std.specs.Prelude.{List, ◌≡◌, refl, suc, ℕ, length}
 use Rattle.std.proofs.Common.{◌∙◌, ap, sym, arith}
 use Rattle.meaning.specs.Graph.{bool, const, input, instr, output, undef}
-use Rattle.nesting.proofs.lookups.ChainEnds.{ChainsEnd, rewrite_enough}
+use Rattle.nesting.specs.lookups.ChainEnds.{ChainsEnd}
+use Rattle.nesting.proofs.lookups.ChainEnds.{rewrite_enough}
 use Rattle.nesting.proofs.lookups.ChainSteps.{chain_steps, next_value, stops_rewrite}
 use Rattle.nesting.proofs.laws.HeldStays.{rewrite_held}
 use Rattle.nesting.specs.Nesting.{rewrites_of, RewriteEntry, unmarked}

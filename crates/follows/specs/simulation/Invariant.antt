@@ -8,7 +8,8 @@ use Rattle.std.proofs.Math.Option.{Option, none, some}
 use Rattle.std.proofs.Common.{◌∙◌, ap, subst, sym, arith}
 use Rattle.meaning.specs.Runs.{Nodes}
 use Rattle.meaning.specs.Graph.{Value}
-use Rattle.nesting.proofs.lookups.ChainEnds.{RewritesTo, entry_kept}
+use Rattle.nesting.specs.lookups.ChainEnds.{RewritesTo}
+use Rattle.nesting.proofs.lookups.ChainEnds.{entry_kept}
 use Rattle.meaning.specs.facts.Tests.{clash}
 use Rattle.nesting.proofs.lookups.Contexts.{InContext, Rooted, open_else, rooted_add}
 use Rattle.nesting.specs.Nesting.{DeferredEdgeBundleSet, rewrites_of, NestState, RegionInputRewrites, RewriteEntry, StructurizeRegionState}

@@ -5,7 +5,7 @@ use Rattle.std.proofs.Common.{inl, inr, ◌∙◌, subst, sym}
 use Rattle.std.proofs.Math.Option.{none}
 use Rattle.meaning.specs.Runs.{Nodes, End, Event, RunState}
 use Rattle.meaning.specs.Graph.{Value, bool, input, output, undef}
-use Rattle.nesting.proofs.lookups.ChainEnds.{names}
+use Rattle.nesting.specs.lookups.ChainEnds.{names}
 use Rattle.nesting.proofs.lookups.Contexts.{InContext, context_more, context_rewritten, no_input}
 use Rattle.nesting.specs.Nesting.{join, DeferredEdgeBundle, DeferredEdgeBundleSet, DeferredTarget, LazyCond, false_cond, merge, true_cond}
 use Rattle.nesting.specs.Nesting.{undef_cond, rewrites_of, NodeOutput, RewriteEntry}

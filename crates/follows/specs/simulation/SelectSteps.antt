@@ -11,7 +11,7 @@ use Rattle.std.proofs.lemmas.Bool.{eqb-false}
 use Rattle.meaning.specs.Runs.{Cases, Nodes, ◌▸◌, ⟨⟩}
 use Rattle.meaning.specs.Graph.{SelectionKind, Value, input, undef}
 use Rattle.meaning.specs.facts.Tests.{clash, or_either, or_left, or_right}
-use Rattle.nesting.proofs.lookups.ChainEnds.{RewritesTo}
+use Rattle.nesting.specs.lookups.ChainEnds.{RewritesTo}
 use Rattle.nesting.proofs.lookups.Contexts.{InContext, entry_at, open_else}
 use Rattle.nesting.specs.Nesting.{new_select, look_up_each, look_up, look_up_case, Body, ClaimedRegion, MaybeClaimedRegion, Scrutinee, err}
 use Rattle.nesting.specs.Nesting.{join, ok, with_twice, DeferredEdgeBundleSet, any_needs_select, any_non_empty_case, plan_bundles}

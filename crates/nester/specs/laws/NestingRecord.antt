@@ -17,7 +17,7 @@ use Rattle.nesting.specs.Nesting.{region_body, piece}
 use Rattle.figure.specs.laws.Nodes.{piece_looked_up}
 use Rattle.nesting.specs.Sheet as sheet
 use Rattle.nesting.specs.Sheet.{sheet_of, sheet_words}
-use Rattle.nesting.proofs.lookups.ChainEnds.{no_more}
+use Rattle.nesting.specs.lookups.ChainEnds.{no_more}
 use Rattle.nesting.specs.SheetNumbers.{outcome_untouched, outcome_whole, outcome_closed, outcome_leftover}
 use Rattle.state_words.specs.Sections.{section, cells, word}
 use Rattle.state_words.specs.Sections as sections

@@ -9,7 +9,8 @@ use Rattle.nesting.specs.Nesting.{InputRewrite, renumber_to, replace_by, RegionI
 use Rattle.nesting.specs.Nesting.{RewriteEntry, rewrites_of, chain_fuel, look_up}
 use Rattle.nesting.specs.lookups.Rewriting.{rewrite}
 use Rattle.nesting.proofs.lookups.ChainSteps.{next_value, after_steps, chain_steps, step_input, step_chain}
-use Rattle.nesting.proofs.lookups.ChainEnds.{names, RewritesTo, Open, entry_kept, ChainsEnd, no_more, goes_on}
+use Rattle.nesting.specs.lookups.ChainEnds.{names, RewritesTo, Open, ChainsEnd, no_more, goes_on}
+use Rattle.nesting.proofs.lookups.ChainEnds.{entry_kept}
 use Rattle.meaning.specs.Lists.{pick}
 
 pub data WithinContext (es : List RewriteEntry) (p : ℕ) : ℕ → Type 0 where

@@ -8,7 +8,8 @@ use Rattle.nesting.specs.Nesting.{InputRewrite, renumber_to, replace_by, RegionI
 use Rattle.nesting.specs.Nesting.{RewriteEntry, rewrites_of, changes_again}
 use Rattle.nesting.specs.lookups.Rewriting.{rewrite}
 use Rattle.nesting.proofs.lookups.ChainSteps.{next_value, after_steps, stops_after, chain_steps}
-use Rattle.nesting.proofs.lookups.ChainEnds.{names, RewritesTo, ChainsEnd, NamesInput, RewritePath, one, path_then, acyclic}
+use Rattle.nesting.specs.lookups.ChainEnds.{names, RewritesTo, ChainsEnd}
+use Rattle.nesting.proofs.lookups.ChainEnds.{NamesInput, RewritePath, one, path_then, acyclic}
 use Rattle.nesting.proofs.lookups.ChainEnds.{rewrite_enough}
 
 -- A value that names no input of r is not a marked one of r.

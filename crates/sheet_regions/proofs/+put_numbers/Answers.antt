@@ -2,7 +2,7 @@ use mathlib.Core.Path.{refl}
 use native.Mathlib.Omega.{arith}
 use borrow.Author.Rules.{rules}
 use Rattle.state_lists.specs.laws.CellByCellLaws.{named_below, before_below}
-use Rattle.sheet_regions.specs.laws.ListsLaws.{list_start, list_inner, list_cell, list_all, list_as}
+use Rattle.sheet_regions.proofs.laws.ListsLaws.{list_start, list_inner, list_cell, list_all, list_as}
 use Rattle.sheet_regions.proofs.+put_numbers.Goals as goal
 use Rattle.sheet_regions.proofs.+put_numbers.Goals.{then-cell_tag-eq-JOIN, else-cell_tag-eq-JOIN}
 

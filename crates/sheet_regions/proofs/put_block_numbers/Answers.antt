@@ -1,8 +1,8 @@
 use mathlib.Core.Path.{refl}
 use native.Mathlib.Omega.{arith}
 use borrow.Author.Rules.{rules}
-use Rattle.sheet_regions.specs.laws.ListsLaws.{blocks_turn, blocks_all}
-use Rattle.sheet_regions.specs.laws.ListsLaws.{blocks_start}
+use Rattle.sheet_regions.proofs.laws.ListsLaws.{blocks_turn, blocks_all}
+use Rattle.sheet_regions.proofs.laws.ListsLaws.{blocks_start}
 use Rattle.sheet_regions.proofs.put_block_numbers.Goals as goal
 
 pub loop-b-init : goal.loop-b-init

@@ -1,4 +1,4 @@
-use Rattle.sheet_regions.specs.laws.ListsLaws.{cell_blocks, cell_one}
+use Rattle.sheet_regions.proofs.laws.ListsLaws.{cell_blocks, cell_one}
 use Rattle.sheet_regions.proofs.put_cell_numbers.Goals as goal
 
 pub returns-then-cell_tag-eq-BLOCKS : goal.returns-then-cell_tag-eq-BLOCKS

@@ -1,4 +1,4 @@
-use Rattle.sheet_regions.specs.laws.ListsLaws.{kids_put}
+use Rattle.sheet_regions.proofs.laws.ListsLaws.{kids_put}
 use Rattle.sheet_regions.proofs.put_kids.Goals as goal
 
 pub returns : goal.returns

@@ -17,7 +17,7 @@ use Rattle.cfg_regions.specs.ByInst.{own_bundle}
 use Rattle.cfg_claims.specs.Claims.{own_target, TriesClaim, Stood}
 use Rattle.cfg.specs.Func.{Outcomes, is_closed, is_whole, one_elsewhere, more_left, Begins, entered_once, Concludes, claimed}
 use Rattle.cfg.specs.Func.{unclaimed, refused, untouched, concluded, Func}
-use Rattle.cfg_claims.specs.laws.Left.{steady_claim}
+use Rattle.cfg_claims.proofs.laws.Left.{steady_claim}
 use Rattle.state_words.specs.Rows.{bundle_target, return_word}
 use Rattle.store.specs.declared.refusals.Refusal.{Refusal}
 use Rattle.store.specs.declared.refusals.Refusal.TheVariants.{Never}

@@ -21,7 +21,7 @@ use Rattle.nesting.specs.Nesting.{claimed, structurize_func, structurize_func_by
 use Rattle.nesting.specs.Nesting.{try_claim_edge_bundle, reachable, to_region, ClaimedRegion, region_body, done, turned_away}
 use Rattle.nesting.specs.Nesting.{StructurizeRegionState, in_progress, ready, claim_by_state, structurize_region, begin, follow, get_state}
 use Rattle.nesting.specs.Nesting.{DeferredEdgeBundleSet, DeferredTarget, to_return, add_attempt}
-use Rattle.nesting.proofs.lookups.ChainEnds.{ChainsEnd}
+use Rattle.nesting.specs.lookups.ChainEnds.{ChainsEnd}
 use Rattle.nesting.specs.steps.RegionsLeft.{all_not_begun, state_of}
 use Rattle.follows.specs.simulation.Claims.{at_first}
 use Rattle.follows.specs.counting.Totals.{edges_to}
@@ -41,7 +41,7 @@ use Rattle.cfg.specs.declared.func.Nested.TheVariants.{Whole, Leftover}
 use Rattle.cfg_claims.specs.Claims.{TriesClaim}
 use Rattle.cfg.specs.Func.{FuncBy, Func, Outcomes}
 use Rattle.cfg.specs.Func as func
-use Rattle.cfg_claims.specs.laws.Left.{steady_claim}
+use Rattle.cfg_claims.proofs.laws.Left.{steady_claim}
 use Rattle.cfg.specs.laws.shown.Shows.{CanClaim, ClaimShows, K, if_claimed, if_refused, if_unclaimed, owed_at_start, world}
 use Rattle.cfg.specs.laws.shown.ClaimsShown.{claim_shown}
 use Rattle.meaning.specs.facts.Sums.{total_within}

@@ -54,7 +54,7 @@ use Rattle.cfg_selects.specs.laws.shown.IntoShown.{into_shown}
 use Rattle.cfg_regions.specs.ByInst as by_inst
 use Rattle.cfg_regions.specs.ByInst.{AddsBlocks, no_blocks, some_blocks, AddsExit, exit_full, Branches, branches, Selects, selects}
 use Rattle.cfg_regions.specs.ByInst.{ByTerminator, at_unreachable, at_return, at_exit, at_branch, at_bool, at_number, ByControlInst}
-use Rattle.cfg_claims.specs.laws.Left.{inst_kinds}
+use Rattle.cfg_claims.proofs.laws.Left.{inst_kinds}
 use Rattle.cfg.specs.laws.shown.Shows.{AnsweredAs, BodyShows, cells_in_all, chains_of, most_cells_in_all, owed_stays, refuses_body}
 use Rattle.cfg.specs.laws.shown.Shows.{shows_body, was_claimed, was_deferred, was_nothing, world}
 use Rattle.cfg.specs.laws.shown.SelectBodies.{edges_bound, into_body}

@@ -22,7 +22,7 @@ use Rattle.cfg_cases.specs.laws.SplitFilled.{SplitShown, split_filled_shown}
 use Rattle.cfg_select_nodes.specs.laws.shown.SelectsShown.{shows_lazy}
 use Rattle.cfg_selects.specs.laws.shown.IntoShown.{into_shown}
 use Rattle.cfg_regions.specs.ByInst.{ResolvesBy, resolves, own_condition}
-use Rattle.cfg_claims.specs.laws.Left.{resolve_kinds}
+use Rattle.cfg_claims.proofs.laws.Left.{resolve_kinds}
 use Rattle.cfg.specs.laws.shown.Shows.{BodyShows, cells_in_all, chains_of, most_cells_in_all, world}
 use Rattle.cfg.specs.laws.shown.SelectBodies.{edges_bound, into_body}
 use Rattle.state_words.specs.Rows.{cells_at, kind_claimed, kind_in_progress, kind_ready, largest, region_kind}

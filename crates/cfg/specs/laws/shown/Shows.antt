@@ -9,7 +9,7 @@ use Rattle.meaning.specs.Lists.{pick}
 use Rattle.format.specs.Valid.{Valid}
 use Rattle.nesting.specs.Nesting.{NestState, StepAnswer, done, turned_away, ClaimedRegion, Body, MaybeClaimedRegion, ok, err, defer_edge}
 use Rattle.nesting.specs.Nesting.{DeferredEdgeBundleSet, SplitOut, to_region}
-use Rattle.nesting.proofs.lookups.ChainEnds.{ChainsEnd}
+use Rattle.nesting.specs.lookups.ChainEnds.{ChainsEnd}
 use Rattle.nesting.proofs.lookups.Contexts.{rooted_ends}
 use Rattle.follows.specs.simulation.ValidUse.{usable_graph}
 use Rattle.follows.specs.simulation.World.{World}

@@ -1,10 +1,10 @@
 -- The two functions of the cycle meet their contracts, in one induction: each goes on with fewer regions not begun.
 use Rattle.std.proofs.Common.{ℕ, arith, ◌∙◌}
-use Rattle.cfg_claims.specs.laws.Turns.{stood_on, targets_over, targets_refused, targets_claimed}
-use Rattle.cfg_claims.specs.laws.Turns.{targets_waiting, Scanned, scan_over, scan_return, scan_claimed, scan_refuses}
-use Rattle.cfg_claims.specs.laws.Turns.{scan_waiting, turns_none, turns_over, turn_nothing, turn_refused, turn_full, turn_again}
-use Rattle.cfg_claims.specs.laws.Turns.{begun_less, begun_steady, BeforeTurns, region_refused, region_full, before_turns}
-use Rattle.cfg_claims.specs.laws.Turns.{attempted_on, claim_nowhere, claim_later, not_begun_yet, claim_inside, claim_first}
+use Rattle.cfg_claims.proofs.laws.Turns.{stood_on, targets_over, targets_refused, targets_claimed}
+use Rattle.cfg_claims.proofs.laws.Turns.{targets_waiting, Scanned, scan_over, scan_return, scan_claimed, scan_refuses}
+use Rattle.cfg_claims.proofs.laws.Turns.{scan_waiting, turns_none, turns_over, turn_nothing, turn_refused, turn_full, turn_again}
+use Rattle.cfg_claims.proofs.laws.Turns.{begun_less, begun_steady, BeforeTurns, region_refused, region_full, before_turns}
+use Rattle.cfg_claims.proofs.laws.Turns.{attempted_on, claim_nowhere, claim_later, not_begun_yet, claim_inside, claim_first}
 use Rattle.cfg_claims.proofs.claims.+structurize_region_try_claim_edge_bundle.Goals as goal
 use Rattle.cfg_claims.proofs.claims.+structurize_region_try_claim_edge_bundle.Goals.{structurize_region-In_default}
 use Rattle.cfg_claims.proofs.claims.+structurize_region_try_claim_edge_bundle.Goals.{structurize_region-Left-loop-i}

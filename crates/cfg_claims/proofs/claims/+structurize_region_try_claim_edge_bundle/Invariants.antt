@@ -1,8 +1,8 @@
 -- What falls is twice the number of regions not begun, and one more for a claim. The loops' invariants: the words so far come from those
 -- when the loop began, and whatever is still to come completes the whole.
 use Rattle.std.proofs.Common.{◌+◌, ◌*◌, ◌-◌}
-use Rattle.cfg_claims.specs.laws.Left.{left}
-use Rattle.cfg_claims.specs.laws.Turns.{TargetsPassed, ScanPassed, TurnsPassed}
+use Rattle.cfg_claims.proofs.laws.Left.{left}
+use Rattle.cfg_claims.proofs.laws.Turns.{TargetsPassed, ScanPassed, TurnsPassed}
 use Rattle.cfg_claims.proofs.claims.+structurize_region_try_claim_edge_bundle.Given as goal
 
 abbrev pub decreases-structurize_region : goal.decreases-structurize_region

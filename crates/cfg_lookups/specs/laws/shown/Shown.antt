@@ -17,7 +17,8 @@ use Rattle.nesting.specs.Nesting.{InputRewrite, renumber_to, replace_by, RegionI
 use Rattle.nesting.specs.Nesting.{RewriteEntry, NestState, done, look_up_chain, look_up_input, rewrite_values, nest_state}
 use Rattle.nesting.specs.Nesting.{counts_of, with_twice, most_regions}
 use Rattle.nesting.proofs.lookups.ChainSteps.{EndsIn, ends_later, chain_same, meets_same}
-use Rattle.nesting.proofs.lookups.ChainEnds.{ChainsEnd, ends_within, rewrite_enough, meets_enough}
+use Rattle.nesting.specs.lookups.ChainEnds.{ChainsEnd}
+use Rattle.nesting.proofs.lookups.ChainEnds.{ends_within, rewrite_enough, meets_enough}
 use Rattle.state_words.specs.Sections.{section, stored, head, rewrites}
 use Rattle.state_words.specs.Values.{is_input, is_held, input_region, input_index}
 use Rattle.state_shown.specs.Values.{value}

@@ -17,7 +17,7 @@ use Rattle.nesting.proofs.steps.Keeps.{loop_claimed, claim_body_keeps}
 use Rattle.nesting.specs.steps.Post.{Post}
 use Rattle.nesting.specs.steps.StatesKept.{KeepsStates}
 use Rattle.nesting.proofs.steps.StatesSteady.{states_kept_steady, states_kept_log}
-use Rattle.nesting.proofs.lookups.ChainEnds.{ChainsEnd}
+use Rattle.nesting.specs.lookups.ChainEnds.{ChainsEnd}
 use Rattle.record.specs.Stands.{OfRecord}
 use Rattle.state_words.specs.declared.defined.Defined.{Defined}
 use Rattle.state_words.specs.declared.defined.Defined.TheVariants.{Number, Full}

@@ -6,7 +6,7 @@ use Rattle.meaning.specs.Runs.{Nodes, ⟨⟩, ◌▸◌, loop}
 use Rattle.nesting.specs.Nesting.{NestState, RewriteEntry, done, rewrite_values, renumber_to, renumber_or_replace_with, with_tables}
 use Rattle.nesting.specs.Nesting.{take_inputs, no_inputs, DeferredEdgeBundleSet, LazyCond, StepAnswer, turned_away, Step, ◌>>=◌, give}
 use Rattle.nesting.specs.Nesting.{materialize_lazy_cond, define_node, LoopInputs, loop_node, most_regions, most_nodes}
-use Rattle.nesting.proofs.lookups.ChainEnds.{ChainsEnd}
+use Rattle.nesting.specs.lookups.ChainEnds.{ChainsEnd}
 use Rattle.state_words.specs.declared.defined.Defined.{Defined}
 use Rattle.state_words.specs.Sections as sections
 use Rattle.state_words.specs.Sections.{Section, number, used, section, word, stored, head, rewrites, children, bundles, set_starts}

@@ -7,7 +7,7 @@ use Rattle.std.proofs.Math.Seq.{get_or-append_seam}
 use Rattle.meaning.specs.Graph.{Value, undef}
 use Rattle.nesting.specs.Nesting as nesting
 use Rattle.nesting.specs.Nesting.{NestState, done, rewrite_values, with_twice}
-use Rattle.nesting.proofs.lookups.ChainEnds.{ChainsEnd}
+use Rattle.nesting.specs.lookups.ChainEnds.{ChainsEnd}
 use Rattle.state_words.specs.Sections.{head}
 use Rattle.state_shown.specs.Values.{value}
 use Rattle.state_shown.specs.laws.Stores.{ChangesOnly, nothing_changes, changes_then}

@@ -17,7 +17,7 @@ use Rattle.nesting.specs.Nesting as nesting
 use Rattle.nesting.specs.Nesting.{NestState, StructurizeRegionState, done, with_twice, DeferredTarget, DeferredEdgeBundle}
 use Rattle.nesting.specs.Nesting.{DeferredEdgeBundleSet, LookUp}
 use Rattle.nesting.specs.Nesting.{ClaimedRegion, claimed_as, MaybeClaimedRegion, ok, err, deferred_of, look_up_bundle, look_up_case}
-use Rattle.nesting.proofs.lookups.ChainEnds.{ChainsEnd}
+use Rattle.nesting.specs.lookups.ChainEnds.{ChainsEnd}
 use Rattle.state_words.specs.Sections as sections
 use Rattle.state_words.specs.Sections.{Section, number, front, section, word, head, kinds, backedges, set_starts, set_lengths, children}
 use Rattle.state_words.specs.Sections.{bodies}

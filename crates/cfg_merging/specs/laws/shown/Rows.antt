@@ -13,7 +13,7 @@ use Rattle.meaning.specs.Graph.{Value, undef}
 use Rattle.meaning.specs.facts.Elements.{at_cons}
 use Rattle.nesting.specs.Nesting as nesting
 use Rattle.nesting.specs.Nesting.{NestState, nest_state, counts_of, with_twice}
-use Rattle.nesting.proofs.lookups.ChainEnds.{ChainsEnd}
+use Rattle.nesting.specs.lookups.ChainEnds.{ChainsEnd}
 use Rattle.state_words.specs.Sections.{Section, start, size, used, word, stored, head, rewrites}
 use Rattle.state_words.specs.Values.{is_input, input_region, input_index}
 use Rattle.state_shown.specs.Values.{value}

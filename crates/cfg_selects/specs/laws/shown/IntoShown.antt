@@ -9,7 +9,7 @@ use Rattle.format.specs.Valid.{Valid}
 use Rattle.nesting.specs.Nesting as nesting
 use Rattle.nesting.specs.Nesting.{MaybeClaimedRegion, ok, ClaimedRegion, DeferredTarget, NestState, StepAnswer, Body}
 use Rattle.nesting.specs.Nesting.{structurize_select_into, structurize_select, convergent_cases, without_convergent}
-use Rattle.nesting.proofs.lookups.ChainEnds.{ChainsEnd}
+use Rattle.nesting.specs.lookups.ChainEnds.{ChainsEnd}
 use Rattle.state_words.specs.Sections.{word, stored, used, head, kinds, set_starts, set_lengths, children, cases}
 use Rattle.state_words.specs.Sections.{bundles}
 use Rattle.state_sets.specs.SetTables.{swapped}

@@ -12,7 +12,7 @@ use Rattle.nesting.specs.Nesting as nesting
 use Rattle.nesting.specs.Nesting.{MaybeClaimedRegion, ok, err, DeferredTarget, NestState, StepAnswer, done, turned_away, follow, give, Body}
 use Rattle.nesting.specs.Nesting.{region_body, join, DefinedSelect, DeferredEdgeBundleSet, PlannedBundle, case_regions, define_select}
 use Rattle.nesting.specs.Nesting.{select_if, emit, shared_bundle, any_needs_select, structurize_select}
-use Rattle.nesting.proofs.lookups.ChainEnds.{ChainsEnd}
+use Rattle.nesting.specs.lookups.ChainEnds.{ChainsEnd}
 use Rattle.nesting.specs.steps.Post.{Post}
 use Rattle.nesting.proofs.steps.Keeps.{select_if_keeps}
 use Rattle.nesting.specs.steps.StatesKept.{KeepsStates}

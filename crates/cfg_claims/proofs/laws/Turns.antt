@@ -27,10 +27,10 @@ use Rattle.cfg_claims.specs.Claims.{TargetRegions, no_target, target_refused, ta
 use Rattle.cfg_claims.specs.Claims.{passes_return, passes_waiting, claims_bundle, scan_refused, SplitsOut, splits_out, Resolves}
 use Rattle.cfg_claims.specs.Claims.{no_turn}
 use Rattle.cfg_claims.specs.Claims.{nothing_claimed, claim_refused, select_refused, claims_and, ResolvesAll, resolves_all}
-use Rattle.cfg_claims.specs.laws.Left.{left, SteadyRecord, steady_same, steady_then, steady_answer, steady_claim, steady_split}
-use Rattle.cfg_claims.specs.laws.Left.{steady_of}
-use Rattle.cfg_claims.specs.laws.Left.{begins_less, steady_attempted, steady_targets, inst_kinds, resolve_kinds}
-use Rattle.cfg_claims.specs.laws.Left.{steady_kind, steady_structurized}
+use Rattle.cfg_claims.proofs.laws.Left.{left, SteadyRecord, steady_same, steady_then, steady_answer, steady_claim, steady_split}
+use Rattle.cfg_claims.proofs.laws.Left.{steady_of}
+use Rattle.cfg_claims.proofs.laws.Left.{begins_less, steady_attempted, steady_targets, inst_kinds, resolve_kinds}
+use Rattle.cfg_claims.proofs.laws.Left.{steady_kind, steady_structurized}
 use Rattle.state_words.specs.Rows.{bundle_count, bundle_target, kind_in_progress, kind_not_begun, level_claimed, region_kind, return_word}
 use Rattle.store.specs.declared.refusals.Refusal.{Refusal}
 use Rattle.store.specs.declared.refusals.Refusal.TheVariants.{TooMany, Never}
