@@ -1,56 +1,46 @@
 // The public routines for C and Rust, under plain names. Each is lent the one nesting state, and lends its words on: no copy is made.
 #![tactic(auto)]
 
-ghost use Rattle.std.specs.Prelude.{◌≡◌, ◌<◌};
+ghost use Rattle.std.specs.Prelude.{◌≡◌, ◌+◌, ◌*◌, ◌<◌};
 ghost use Rattle.c_interface.specs.Exported.{AcceptExported, NestExported, WriteExported};
+ghost use Rattle.store.specs.Refusals.{refusal_number, refusal_word};
 
-use accept::Accepted;
-use nester::SheetAnswer;
 use state_lent::NestState;
-use store::{StoreWritten, WORDS};
+use store::refusals::{number, word};
+use store::{Refusal, WORDS};
 
-fn wide(x: u16) -> u32
-    ensures same { result ≡ x }
-    ensures small { result < 65536 }
+// A refusal's number times 65,536, and its word.
+fn refused(why: Refusal) -> u32
+    ensures same { result ≡ refusal_number why * 65536 + refusal_word why }
+    ensures small { refusal_word why < 65536 }
 {
-    x as u32
-}
-
-fn long(x: u32) -> u64
-    ensures same { result ≡ x }
-    ensures small { result < 4294967296 }
-{
-    x as u64
+    u32::from(number(why)) * 65536 + u32::from(word(why))
 }
 
 fn accept_in_words(bytes: &[u8], words: &mut [u16; WORDS]) -> u32
     ensures { AcceptExported bytes.now words.old words.new result }
 {
-    let answer = accept::accept(bytes, words);
-    match answer {
-        Accepted::Record => 0,
-        Accepted::Refused(number, word) => wide(number) * 65536 + wide(word),
+    match accept::accept(bytes, words) {
+        Ok(()) => 0,
+        Err(why) => refused(why),
     }
 }
 
 fn nest_in_words(bytes: &[u8], words: &mut [u16; WORDS], out: &mut [u32]) -> u64
     ensures { NestExported bytes.now words.old words.new out.old out.new result }
 {
-    let answer = nester::nest(bytes, words, out);
-    match answer {
-        SheetAnswer::Sheet(n) => long(n),
-        SheetAnswer::Refused(number, word) => long(wide(number)) * 4294967296 + long(wide(word)),
+    match nester::nest(bytes, words, out) {
+        Ok(n) => u64::from(n),
+        Err(why) => u64::from(number(why)) * 4294967296 + u64::from(word(why)),
     }
 }
 
 fn write_in_words(words: &mut [u16; WORDS], out: &mut [u8]) -> u32
     ensures { WriteExported words.old words.new out.old out.new result }
 {
-    let answer = store::write_store(words, out);
-    match answer {
-        StoreWritten::Bytes(n) => wide(n),
-        StoreWritten::Refused(why) => wide(store::refusals::number(why)) * 65536
-            + wide(store::refusals::word(why)),
+    match store::write_store(words, out) {
+        Ok(n) => u32::from(n),
+        Err(why) => refused(why),
     }
 }
 

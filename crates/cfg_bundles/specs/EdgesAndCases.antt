@@ -5,6 +5,8 @@ use Rattle.meaning.specs.Lists.{pick}
 use Rattle.fields.specs.ByNumber.{end_values, edge_of}
 use Rattle.fields.specs.ItemsAndPlaces.{value_item}
 use Rattle.state_regions.specs.declared.cases.Case.{Case}
+use Rattle.state_regions.specs.declared.cases.CaseKind.{CaseKind}
+use Rattle.state_regions.specs.declared.cases.CaseKind.TheVariants.{NothingDeferred, OwnEdge, ClaimedRegion, Others}
 use Rattle.state_words.specs.Sections.{word, stored, stored_all, head, children, bodies, set_starts, set_lengths, cases, bundles}
 use Rattle.state_sets.specs.SetTables.{bundle_at, own_edge, input_word, bundle_copied, shift_removed, swapped}
 use Rattle.state_regions.specs.RegionTables.{target_answer, case_words}
@@ -12,8 +14,8 @@ use Rattle.state_nodes.specs.NodeTables.{inserted}
 use Rattle.state_nodes.specs.NodeTables.{Joins}
 use Rattle.state_words.specs.Values as state
 use Rattle.state_words.specs.Values.{undef_from, input_from, names_nothing}
-use Rattle.state_words.specs.Rows.{bundle_condition, bundle_row_at, bundle_target, case_claimed, case_input, case_nothing, case_others}
-use Rattle.state_words.specs.Rows.{case_own_edge, case_row_at, cases_at, entry_replace, level_claimed, level_deferred, return_word}
+use Rattle.state_words.specs.Rows.{bundle_condition, bundle_row_at, bundle_target, case_input}
+use Rattle.state_words.specs.Rows.{case_row_at, cases_at, entry_replace, level_claimed, level_deferred, return_word}
 use Rattle.state_words.specs.Rows.{returned_at, condition_true}
 use Rattle.state_words.specs.Rows.{types_at}
 
@@ -65,14 +67,14 @@ return_deferred g l r =
     stored (stored_all l bundles (bundle_row_at p) (return_word ∷ 0 ∷ 1 ∷ padded (end_values g r))) set_lengths r 1
 
 -- ---- Cases.
-abbrev pub unclaimed_case : ℕ → ℕ → ℕ → Case
+abbrev pub unclaimed_case : CaseKind → ℕ → ℕ → Case
 unclaimed_case kind start length =
     record { kind = kind; origin = 0; body = 0; children = record { 0 = 0 }; start = record { 0 = start }; length = length }
 
 abbrev pub claimed_case : List ℕ → ℕ → Case
 claimed_case l t =
     record {
-      kind = case_claimed;
+      kind = ClaimedRegion;
       origin = t;
       body = word l bodies t;
       children = record { 0 = word l children t };
@@ -86,8 +88,8 @@ case_filled g l r j =
     pick (eqb (target_answer l r j) level_claimed)
     (stored_all l cases (case_row_at j) (case_words (claimed_case l e.target) ++ padded e.inputs))
     (pick (eqb (target_answer l r j) level_deferred)
-    (stored_all (edge_deferred g l (own_edge j) r j) cases (case_row_at j) (case_words (unclaimed_case case_own_edge (own_edge j) 1)))
-    (stored_all l cases (case_row_at j) (case_words (unclaimed_case case_nothing 0 0))))
+    (stored_all (edge_deferred g l (own_edge j) r j) cases (case_row_at j) (case_words (unclaimed_case OwnEdge (own_edge j) 1)))
+    (stored_all l cases (case_row_at j) (case_words (unclaimed_case NothingDeferred 0 0))))
 
 -- n cases from case j on.
 unfoldable pub filled_from : Graph → List ℕ → ℕ → ℕ → ℕ → List ℕ
@@ -114,7 +116,7 @@ split_filled g l r i =
     let rest = shift_removed l r i in
     let first = case_words (claimed_case l (bundle_target l p)) ++ given_inputs g l p in
     stored_all (stored_all (stored rest head cases_at 2) cases (case_row_at 0) first) cases (case_row_at 1)
-    (case_words (unclaimed_case case_others start (word rest set_lengths r)))
+    (case_words (unclaimed_case Others start (word rest set_lengths r)))
 
 abbrev pub case_inputs : List ℕ → ℕ → List ℕ
 case_inputs l j =
@@ -123,11 +125,11 @@ case_inputs l j =
 
 -- ---- A case that stands alone.
 pub data Appends (l l' : List ℕ) (r : ℕ) (x : Case) (j : ℕ) : Type 0 where
-  appended : {l₂ : List ℕ} {h : ℕ} → x.kind ≡ case_claimed
+  appended : {l₂ : List ℕ} {h : ℕ} → x.kind ≡ ClaimedRegion
       → Joins (inserted l x.body entry_replace (case_inputs l j)) l₂
       (word (inserted l x.body entry_replace (case_inputs l j)) children r) x.children.0 h
       → l' ≡ stored (swapped (stored l₂ children r h) r x.origin) set_lengths r x.length → Appends l l' r x j
-  its_edge : x.kind ≡ case_own_edge
+  its_edge : x.kind ≡ OwnEdge
       → l' ≡ stored (bundle_copied l (bundle_at (word l set_starts r) 0) x.start.0) set_lengths r x.length
       → Appends l l' r x j
-  its_rest : (x.kind ≡ case_claimed → ⊥) → (x.kind ≡ case_own_edge → ⊥) → l' ≡ stored l set_lengths r x.length → Appends l l' r x j
+  its_rest : (x.kind ≡ ClaimedRegion → ⊥) → (x.kind ≡ OwnEdge → ⊥) → l' ≡ stored l set_lengths r x.length → Appends l l' r x j

@@ -18,33 +18,35 @@ use state_words::values::{UNDEF, value_word};
 use store::WORDS;
 use store::layout::word_at;
 
+#[tactic(auto, unfolding(crate::specs::EdgesAndCases::input_count))]
 pub fn target_input_count(w: &[u16; WORDS], t: u16) -> u16
     ensures { OfRecord w.now (λ g. result ≡ words.input_count g w.now t) }
 {
     if t == RETURN {
-        return head(w, RETURNED);
+        head(w, RETURNED)
+    } else {
+        fields::input_count(w, t)
     }
-    fields::input_count(w, t)
 }
 
 // All Return regions agree in types.
+#[tactic(auto, unfolding(crate::specs::EdgesAndCases::target_type))]
 pub fn target_input_type(w: &[u16; WORDS], t: u16, k: u16) -> u16
     ensures { OfRecord w.now (λ g. result ≡ words.target_type g w.now t k) }
 {
     if t == RETURN {
-        return returned_type(w, k);
+        returned_type(w, k)
+    } else {
+        fields::input_type(w, t, k)
     }
-    fields::input_type(w, t, k)
 }
 
 // The Rust's Always: a set of one, whose condition is dropped.
+#[tactic(auto, unfolding(crate::specs::EdgesAndCases::condition_in))]
 pub fn condition_in(w: &[u16; WORDS], p: BundleNumber, n: u16) -> u16
     ensures { result ≡ words.condition_in w.now p.0 n }
 {
-    if n == 1 {
-        return TRUE_COND;
-    }
-    condition(w, p)
+    if n == 1 { TRUE_COND } else { condition(w, p) }
 }
 
 // Value k of the n that are listed at a place; beyond them undefined, of type 0.
@@ -52,22 +54,18 @@ fn listed_word(w: &[u16; WORDS], p: u16, k: u16, n: u16) -> u16
     ensures { result ≡ words.listed_word w.now p n k }
 {
     if k < n {
-        return value_word(fields::value_item(w, p, k));
+        value_word(fields::value_item(w, p, k))
+    } else {
+        UNDEF
     }
-    UNDEF
 }
 
 // The values that are listed at a place.
 fn listed_inputs(w: &[u16; WORDS], p: u16) -> [u16; 4]
     ensures { result ≡ words.listed w.now p }
 {
-    let n = word_at(w, p as usize);
-    [
-        listed_word(w, p, 0, n),
-        listed_word(w, p, 1, n),
-        listed_word(w, p, 2, n),
-        listed_word(w, p, 3, n),
-    ]
+    let n = word_at(w, usize::from(p));
+    [0, 1, 2, 3].map(|k| listed_word(w, p, k, n))
 }
 
 // The values that region r passes to its target at place j.

@@ -7,30 +7,25 @@ ghost use Rattle.cfg_bundles.specs.EdgesAndCases as words;
 ghost use Rattle.state_words.specs.Rows as rows;
 
 use cfg_bundles::bundles::{defer_edge, passed_inputs};
-use state_regions::cases::{
-    CLAIMED_REGION, Case, NOTHING_DEFERRED, OTHERS, OWN_EDGE, set_case, set_case_count,
-    set_case_inputs,
-};
-use state_regions::regions::{
-    TARGET_CLAIMED, TARGET_DEFERRED, children, structured_body, target_answer,
-};
+use state_regions::cases::{Case, CaseKind, set_case, set_case_count, set_case_inputs};
+use state_regions::regions::{TargetAnswer, children, structured_body, target_answer};
 use state_sets::sets::{
     bundle_at, own_edge, set_length, set_start, shift_remove, target, target_input,
 };
 use state_words::bundle_numbers::BundleNumber;
-use state_words::handles::Handle;
+use state_words::handles::EMPTY;
 use state_words::values::UNDEF;
 use store::WORDS;
 
 // A case that is no claimed region.
-pub fn unclaimed_case(kind: u16, start: BundleNumber, length: u16) -> Case
+pub fn unclaimed_case(kind: CaseKind, start: BundleNumber, length: u16) -> Case
     ensures { result ≡ words.unclaimed_case kind start.0 length }
 {
     Case {
         kind,
         origin: 0,
         body: 0,
-        children: Handle(0),
+        children: EMPTY,
         start,
         length,
     }
@@ -40,7 +35,7 @@ fn claimed_case(w: &[u16; WORDS], t: u16) -> Case
     ensures { result ≡ words.claimed_case w.now t }
 {
     Case {
-        kind: CLAIMED_REGION,
+        kind: CaseKind::ClaimedRegion,
         origin: t,
         body: structured_body(w, t),
         children: children(w, t),
@@ -61,20 +56,23 @@ fn put_case(w: &mut [u16; WORDS], j: u16, x: Case, vs: &[u16; 4])
 fn fill_case(w: &mut [u16; WORDS], r: u16, j: u16)
     ensures { OfRecord w.old (λ g. w.new ≡ words.case_filled g w.old r j) }
 {
-    let answer = target_answer(w, r, j);
-    if answer == TARGET_CLAIMED {
-        let x = claimed_case(w, fields::target(w, r, j));
-        let vs = passed_inputs(w, r, j);
-        put_case(w, j, x, &vs);
-        return;
+    match target_answer(w, r, j) {
+        TargetAnswer::Claimed => {
+            let x = claimed_case(w, fields::target(w, r, j));
+            let vs = passed_inputs(w, r, j);
+            put_case(w, j, x, &vs);
+        }
+        TargetAnswer::Deferred => {
+            let p = own_edge(j);
+            defer_edge(w, p, r, j);
+            set_case(w, j, unclaimed_case(CaseKind::OwnEdge, p, 1));
+        }
+        _ => set_case(
+            w,
+            j,
+            unclaimed_case(CaseKind::NothingDeferred, BundleNumber(0), 0),
+        ),
     }
-    if answer == TARGET_DEFERRED {
-        let p = own_edge(j);
-        defer_edge(w, p, r, j);
-        set_case(w, j, unclaimed_case(OWN_EDGE, p, 1));
-        return;
-    }
-    set_case(w, j, unclaimed_case(NOTHING_DEFERRED, BundleNumber(0), 0));
 }
 
 // The Rust's target_regions, from what the level holds of them.
@@ -83,20 +81,16 @@ pub fn fill_cases(w: &mut [u16; WORDS], r: u16)
 {
     let n = fields::target_count(w, r);
     set_case_count(w, n);
-    let mut j: u16 = 0;
-    while j < n {
+    for j in 0..n {
         fill_case(w, r, j);
-        j += 1;
     }
 }
 
+#[tactic(auto, unfolding(cfg_bundles::specs::EdgesAndCases::given_word))]
 fn given_word(w: &[u16; WORDS], p: BundleNumber, k: u16, n: u16) -> u16
     ensures { result ≡ words.given_word w.now p.0 n k }
 {
-    if k < n {
-        return target_input(w, p, k);
-    }
-    UNDEF
+    if k < n { target_input(w, p, k) } else { UNDEF }
 }
 
 // The inputs of the bundle at a place, which goes to a region.
@@ -104,12 +98,7 @@ fn given_inputs(w: &[u16; WORDS], p: BundleNumber) -> [u16; 4]
     ensures { OfRecord w.now (λ g. result ≡ words.given_inputs g w.now p.0) }
 {
     let n = fields::input_count(w, target(w, p));
-    [
-        given_word(w, p, 0, n),
-        given_word(w, p, 1, n),
-        given_word(w, p, 2, n),
-        given_word(w, p, 3, n),
-    ]
+    [0, 1, 2, 3].map(|k| given_word(w, p, k, n))
 }
 
 // The region that bundle i of region r's set claimed, and the others of that set.
@@ -124,5 +113,5 @@ pub fn fill_claimed_and_others(w: &mut [u16; WORDS], r: u16, i: u16)
     let n = set_length(w, r);
     set_case_count(w, 2);
     put_case(w, 0, x, &vs);
-    set_case(w, 1, unclaimed_case(OTHERS, start, n));
+    set_case(w, 1, unclaimed_case(CaseKind::Others, start, n));
 }

@@ -2,7 +2,8 @@
 use Rattle.std.specs.Prelude.{◌≡◌, List, ℕ, ◌≤◌, ◌<◌, length, get_or, eqb}
 use Rattle.meaning.specs.Lists.{pick}
 use Rattle.meaning.specs.Graph.{Graph}
-use Rattle.state_words.specs.declared.defined.Defined.TheVariants.{Number, Full as Refused}
+use Rattle.std.specs.Prelude.{Ok}
+use Rattle.state_words.specs.Totals.{Made, Done, Full}
 use Rattle.state_words.specs.Sections.{word, stored, set_starts, set_lengths, bundles}
 use Rattle.state_regions.specs.RegionTables.{case_total}
 use Rattle.state_sets.specs.SetTables.{input_word, input_stored, bundle_at}
@@ -10,8 +11,6 @@ use Rattle.state_nodes.specs.NodeTables.{OutputDefined, MergeDefined}
 use Rattle.state_words.specs.Values.{undef_word, output_word}
 use Rattle.cfg_bundles.specs.EdgesAndCases.{input_count, target_type}
 use Rattle.cfg_planning.specs.Planning.{per_case_deferred, per_case_condition, to_merge, to_define}
-use Rattle.state_words.specs.declared.defined.Made.{Made}
-use Rattle.state_words.specs.declared.defined.Made.TheVariants.{Done, Full}
 use Rattle.cfg_select_nodes.specs.Turns.{Steps, Turns}
 use Rattle.state_words.specs.Values.{parts, undef_from}
 use Rattle.state_words.specs.Rows.{bundle_condition, bundle_condition_at, bundle_target, no_bundle_word, select_node, spare_slot}
@@ -35,10 +34,10 @@ ConditionsIn l places vs = InCases (case_total l) (λ j. per_case_condition l j 
 pub data EmitInput (g : Graph) (node q t : ℕ) (places : List ℕ) (k : ℕ) (l l' : List ℕ) : Made → Type 0 where
   input_there : (input_word l q k ≡ to_merge → ⊥) → l' ≡ l → EmitInput g node q t places k l l' Done
   input_made : {l₁ vs : List ℕ} {o : ℕ} → input_word l q k ≡ to_merge → ValuesIn l places k (target_type g l t k) vs
-      → OutputDefined node (target_type g l t k) vs l l₁ (Number o) → l' ≡ input_stored l₁ q k (output_word o)
+      → OutputDefined node (target_type g l t k) vs l l₁ (Ok o) → l' ≡ input_stored l₁ q k (output_word o)
       → EmitInput g node q t places k l l' Done
   no_input : {vs : List ℕ} → input_word l q k ≡ to_merge → ValuesIn l places k (target_type g l t k) vs
-      → OutputDefined node (target_type g l t k) vs l l' Refused → EmitInput g node q t places k l l' Full
+      → OutputDefined node (target_type g l t k) vs l l' Full → EmitInput g node q t places k l l' Full
 
 abbrev pub target_at : List ℕ → ℕ → ℕ
 target_at l q = bundle_target l q
@@ -50,10 +49,10 @@ EmitInputs g node q places l l' a = Turns (EmitInput g node q (target_at l q) pl
 pub data EmitCondition (h q : ℕ) (places l l' : List ℕ) : Made → Type 0 where
   condition_there : (bundle_condition l q ≡ to_define → ⊥) → l' ≡ l → EmitCondition h q places l l' Done
   condition_made : {l₁ parts : List ℕ} {c : ℕ} → bundle_condition l q ≡ to_define → ConditionsIn l places parts
-      → MergeDefined h parts l l₁ (Number c)
+      → MergeDefined h parts l l₁ (Ok c)
       → l' ≡ stored l₁ bundles (bundle_condition_at q) c → EmitCondition h q places l l' Done
   no_condition : {parts : List ℕ} → bundle_condition l q ≡ to_define → ConditionsIn l places parts
-      → MergeDefined h parts l l' Refused
+      → MergeDefined h parts l l' Full
       → EmitCondition h q places l l' Full
 
 -- ---- Bundles.

@@ -1,4 +1,4 @@
-// Outputs and conditions of a select: what was planned in the spare slot is made.
+// Outputs and conditions of a select: what was planned in the spare slot is made. A select has at most eight cases, and there is no heap.
 ghost use Rattle.std.specs.Prelude.{◌≡◌};
 ghost use Rattle.record.specs.Stands.{OfRecord};
 ghost use Rattle.cfg_emits.specs.Emits as words;
@@ -14,7 +14,7 @@ use state_sets::sets::{
     target, target_input,
 };
 use state_words::bundle_numbers::BundleNumber;
-use state_words::defined::{Defined, Made};
+use state_words::defined::TooMany;
 use state_words::handles::Handle;
 use state_words::values::{UNDEF, output, undef};
 use store::WORDS;
@@ -23,9 +23,10 @@ fn value_in_case(w: &[u16; WORDS], p: BundleNumber, k: u16, ty: u16) -> u16
     ensures { result ≡ words.value_in_case w.now p.0 k ty }
 {
     if p.0 == NO_BUNDLE {
-        return undef(ty);
+        undef(ty)
+    } else {
+        target_input(w, p, k)
     }
-    target_input(w, p, k)
 }
 
 // Input k of a target in each case, undefined of its type where a case has none.
@@ -34,12 +35,10 @@ fn values_in_cases(w: &[u16; WORDS], places: &[u16; 8], k: u16, ty: u16) -> [u16
 {
     let n = case_count(w);
     let mut vs = [UNDEF; 8];
-    let mut j: u16 = 0;
-    while j < n {
+    for j in 0..n {
         let p = places[j as usize];
         let v = value_in_case(w, BundleNumber(p), k, ty);
         vs[j as usize] = v;
-        j += 1;
     }
     vs
 }
@@ -52,38 +51,35 @@ fn emit_input(
     t: u16,
     places: &[u16; 8],
     k: u16,
-) -> Made
+) -> Result<(), TooMany>
     ensures { OfRecord w.old (λ g.
         words.EmitInput g node q.0 t places.now k w.old w.new result) }
 {
     if target_input(w, q, k) != TO_MERGE {
-        return Made::Done;
+        return Ok(());
     }
     let ty = target_input_type(w, t, k);
     let vs = values_in_cases(w, places, k, ty);
-    match define_output(w, node, ty, &vs) {
-        Defined::Full => Made::Full,
-        Defined::Number(o) => {
-            set_target_input(w, q, k, output(o));
-            Made::Done
-        }
-    }
+    let o = define_output(w, node, ty, &vs)?;
+    set_target_input(w, q, k, output(o));
+    Ok(())
 }
 
-fn emit_inputs(w: &mut [u16; WORDS], node: u16, q: BundleNumber, places: &[u16; 8]) -> Made
+fn emit_inputs(
+    w: &mut [u16; WORDS],
+    node: u16,
+    q: BundleNumber,
+    places: &[u16; 8],
+) -> Result<(), TooMany>
     ensures { OfRecord w.old (λ g.
         words.EmitInputs g node q.0 places.now w.old w.new result) }
 {
     let t = target(w, q);
     let n = target_input_count(w, t);
-    let mut k: u16 = 0;
-    while k < n {
-        if let Made::Full = emit_input(w, node, q, t, places, k) {
-            return Made::Full;
-        }
-        k += 1;
+    for k in 0..n {
+        emit_input(w, node, q, t, places, k)?;
     }
-    Made::Done
+    Ok(())
 }
 
 fn conditions_in_cases(w: &[u16; WORDS], places: &[u16; 8]) -> [u16; 8]
@@ -91,56 +87,49 @@ fn conditions_in_cases(w: &[u16; WORDS], places: &[u16; 8]) -> [u16; 8]
 {
     let n = case_count(w);
     let mut parts = [0u16; 8];
-    let mut j: u16 = 0;
-    while j < n {
+    for j in 0..n {
         let p = places[j as usize];
         let c = per_case_condition(w, j, BundleNumber(p));
         parts[j as usize] = c;
-        j += 1;
     }
     parts
 }
 
 // h is the select's cell.
-fn emit_condition(w: &mut [u16; WORDS], h: Handle, q: BundleNumber, places: &[u16; 8]) -> Made
+fn emit_condition(
+    w: &mut [u16; WORDS],
+    h: Handle,
+    q: BundleNumber,
+    places: &[u16; 8],
+) -> Result<(), TooMany>
     ensures { words.EmitCondition h.0 q.0 places.now w.old w.new result }
 {
     if condition(w, q) != TO_DEFINE {
-        return Made::Done;
+        return Ok(());
     }
     let parts = conditions_in_cases(w, places);
-    match define_merge(w, h, &parts) {
-        Defined::Full => Made::Full,
-        Defined::Number(c) => {
-            set_condition(w, q, c);
-            Made::Done
-        }
-    }
+    let c = define_merge(w, h, &parts)?;
+    set_condition(w, q, c);
+    Ok(())
 }
 
-fn emit_bundle(w: &mut [u16; WORDS], h: Handle, q: BundleNumber) -> Made
+fn emit_bundle(w: &mut [u16; WORDS], h: Handle, q: BundleNumber) -> Result<(), TooMany>
     ensures { OfRecord w.old (λ g. words.EmitBundle g h.0 q.0 w.old w.new result) }
 {
     let places = per_case_deferred(w, target(w, q));
     let node = select_node(w, h);
-    if let Made::Full = emit_inputs(w, node, q, &places) {
-        return Made::Full;
-    }
+    emit_inputs(w, node, q, &places)?;
     emit_condition(w, h, q, &places)
 }
 
 // In the order of the select's deferred targets.
-pub fn emit_bundles(w: &mut [u16; WORDS], h: Handle) -> Made
+pub fn emit_bundles(w: &mut [u16; WORDS], h: Handle) -> Result<(), TooMany>
     ensures { OfRecord w.old (λ g. words.Emits g h.0 w.old w.new result) }
 {
     let start = set_start(w, SPARE);
     let n = set_length(w, SPARE);
-    let mut i: u16 = 0;
-    while i < n {
-        if let Made::Full = emit_bundle(w, h, bundle_at(start, i)) {
-            return Made::Full;
-        }
-        i += 1;
+    for i in 0..n {
+        emit_bundle(w, h, bundle_at(start, i))?;
     }
-    Made::Done
+    Ok(())
 }

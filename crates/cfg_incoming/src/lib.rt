@@ -1,7 +1,8 @@
-// Incoming edge counts, of edges from regions that the entry reaches: the Rust's incoming_edge_counts_including_loop_exits.
+// Incoming edge counts, of edges from regions that the entry reaches: the Rust's incoming_edge_counts_including_loop_exits. Their arrays
+// have fixed lengths: there is no heap.
 #![tactic(auto)]
 
-ghost use Rattle.std.specs.Prelude.{◌≡◌, true, ◌∷◌, ◌++◌, ℕ, suc, ◌+◌, ◌≤◌, ◌<◌, min, length, get_or};
+ghost use Rattle.std.specs.Prelude.{◌≡◌, true, List, ◌∷◌, ◌++◌, ℕ, suc, ◌+◌, ◌≤◌, ◌<◌, min, length, get_or};
 ghost use Rattle.meaning.specs.Graph.{region, edges_of, targets_of};
 ghost use Rattle.meaning.specs.Lists.{total};
 ghost use Rattle.format.specs.Valid.{Valid};
@@ -14,44 +15,52 @@ ghost use Rattle.cfg_incoming.specs.Visits.{Marks, Room, Visiting};
 use state_words::edges::{IncomingEdgeCount, ONE};
 use store::WORDS;
 
-// Tells its caller how long the array is: it lends the array as a slice, and compiles to nothing.
-fn tells_length(counts: &[u32]) {}
-
 pub fn count_of(counts: &[u32; 32], r: u16) -> IncomingEdgeCount
     ensures { result.0 ≡ get_or counts.now r 0 }
 {
-    tells_length(counts);
+    // Not by `get`: the boards' code is made from the module for x86-64, and an Option of a reference lies otherwise where pointers have
+    // 4 bytes.
     if r < 32 {
-        return IncomingEdgeCount(counts[r as usize]);
+        IncomingEdgeCount(counts[usize::from(r)])
+    } else {
+        IncomingEdgeCount(0)
     }
-    IncomingEdgeCount(0)
 }
 
 fn add_one(counts: &mut [u32; 32], r: u16)
     requires { AtMost counts.old 4294967294 }
     ensures { OneMore counts.old counts.new r }
 {
-    tells_length(counts);
     if r < 32 {
-        let i = r as usize;
-        let n = IncomingEdgeCount(counts[i]).plus(ONE);
-        counts[i] = n.0;
-        return;
+        let i = usize::from(r);
+        counts[i] = IncomingEdgeCount(counts[i]).plus(ONE).0;
     }
 }
 
-// A target that is named twice counts twice.
+// One more for each of the n numbers of a list. A number that stands there twice counts twice.
+fn count_all<F: Fn(u16) -> u16>(counts: &mut [u32; 32], n: u16, item: F)
+    requires callable { F.IsAlwaysCallable item }
+    requires room { AtMost counts.old 4294901760 }
+    ensures grows { Grows counts.old counts.new 65535 }
+    ensures counted { (ts : List ℕ) → n ≡ length ts
+        → ((j x : ℕ) → j < n → F.post item j x → x ≡ get_or ts j 0)
+        → GainsAll counts.old counts.new ts }
+{
+    for j in 0..n {
+        add_one(counts, item(j));
+    }
+}
+
 fn count_targets(w: &[u16; WORDS], r: u16, counts: &mut [u32; 32])
     requires { AtMost counts.old 4294901760 }
     ensures grows { Grows counts.old counts.new 65535 }
     ensures of_record { OfRecord w.now (λ g. GainsAll counts.old counts.new (targets_of g r)) }
 {
-    let n = fields::target_count(w, r);
-    let mut j: u16 = 0;
-    while j < n {
-        add_one(counts, fields::target(w, r, j));
-        j += 1;
-    }
+    count_all(
+        counts,
+        fields::target_count(w, r),
+        |j| fields::target(w, r, j),
+    );
 }
 
 fn count_exits(w: &[u16; WORDS], r: u16, counts: &mut [u32; 32])
@@ -59,38 +68,22 @@ fn count_exits(w: &[u16; WORDS], r: u16, counts: &mut [u32; 32])
     ensures grows { Grows counts.old counts.new 65535 }
     ensures of_record { OfRecord w.now (λ g. GainsAll counts.old counts.new (exit_targets g r)) }
 {
-    let n = fields::exit_count(w, r);
-    let mut k: u16 = 0;
-    while k < n {
-        add_one(counts, fields::exit_target(w, r, k));
-        k += 1;
-    }
+    count_all(
+        counts,
+        fields::exit_count(w, r),
+        |k| fields::exit_target(w, r, k),
+    );
 }
 
 // One visit for the entry and one for each edge.
 fn visit_count(w: &[u16; WORDS]) -> u32
     ensures { OfRecord w.now (λ g. result ≡ suc (total (λ x. length (edges_of x.terminator)) g.regions)) }
 {
-    let n = fields::region_count(w);
     let mut sum: u32 = 1;
-    let mut r: u16 = 0;
-    while r < n {
-        sum += fields::target_count(w, r) as u32;
-        r += 1;
+    for r in 0..fields::region_count(w) {
+        sum += u32::from(fields::target_count(w, r));
     }
     sum
-}
-
-// At most eight: a region of a valid record has no more.
-fn few_targets(w: &[u16; WORDS], r: u16) -> u16
-    ensures upper_bound { result ≤ 8 }
-    ensures of_record { OfRecord w.now (λ g. result ≡ min (length (edges_of (region g r).terminator)) 8) }
-{
-    let n = fields::target_count(w, r);
-    if n < 8 {
-        return n;
-    }
-    8
 }
 
 // Regions to visit, the next one last. The first target is visited first.
@@ -100,12 +93,11 @@ fn push_targets(w: &[u16; WORDS], r: u16, todo: &mut [u16; 264], depth: usize) -
     ensures of_record { OfRecord w.now (λ g. length (edges_of (region g r).terminator) ≤ 8
         → before todo.new result ≡ targets_of g r ++ before todo.old depth) }
 {
-    store::tells_length(todo);
-    let mut left = few_targets(w, r);
+    // A region of a valid record has no more than eight.
+    let n = fields::target_count(w, r).min(8);
     let mut at = depth;
-    while 0 < left {
-        left -= 1;
-        todo[at] = fields::target(w, r, left);
+    for j in (0..n).rev() {
+        todo[at] = fields::target(w, r, j);
         at += 1;
     }
     at
@@ -115,15 +107,11 @@ fn push_targets(w: &[u16; WORDS], r: u16, todo: &mut [u16; 264], depth: usize) -
 fn mark(seen: &mut [bool; 32], r: u16) -> bool
     ensures { Marks seen.old seen.new r result }
 {
-    if r < 32 {
-        let i = r as usize;
-        if seen[i] {
-            return false;
-        }
-        seen[i] = true;
-        return true;
+    let fresh = r < 32 && !seen[usize::from(r)];
+    if fresh {
+        seen[usize::from(r)] = true;
     }
-    false
+    fresh
 }
 
 // One visit, of region r, which was taken off the stack: the new depth.
@@ -144,9 +132,10 @@ fn visit(
     if mark(seen, r) {
         count_targets(w, r, counts);
         count_exits(w, r, counts);
-        return push_targets(w, r, todo, depth);
+        push_targets(w, r, todo, depth)
+    } else {
+        depth
     }
-    depth
 }
 
 // Edges to each region, from the regions that the entry reaches; one more for the entry.
@@ -161,15 +150,13 @@ pub fn incoming_edge_counts(w: &[u16; WORDS]) -> [u32; 32]
     add_one(&mut counts, entry);
     todo[0] = entry;
     let mut depth: usize = 1;
-    let mut fuel = visit_count(w);
-    while 0 < fuel {
+    for _turn in 0..visit_count(w) {
         if depth == 0 {
             return counts;
         }
         depth -= 1;
         let r = todo[depth];
         depth = visit(w, r, &mut seen, &mut counts, &mut todo, depth);
-        fuel -= 1;
     }
     counts
 }

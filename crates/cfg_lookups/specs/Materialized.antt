@@ -1,7 +1,7 @@
 -- A lazy condition made real, as the words alone have it.
 use Rattle.std.specs.Prelude.{◌≡◌, Bool, true, false, List, ℕ, ◌+◌, ◌≤◌, ◌<◌, get_or, set, replicate, eqb}
-use Rattle.state_words.specs.declared.defined.Defined.{Defined}
-use Rattle.state_words.specs.declared.defined.Defined.TheVariants.{Number, Full}
+use Rattle.std.specs.Prelude.{Ok}
+use Rattle.state_words.specs.Totals.{Defined, Full}
 use Rattle.state_words.specs.Values.{output_word, undef_word, true_word, false_word}
 use Rattle.state_nodes.specs.NodeTables.{earlier_part, shape_size, OutputDefined}
 use Rattle.meaning.specs.Lists.{pick}
@@ -21,18 +21,18 @@ part_at l c j = earlier_part (merge_part l c j) c
 -- The parts' values put together: the scrutinee of record c, or a new output of its select.
 pub data Merges (l : List ℕ) (c : ℕ) (vs l' : List ℕ) : Defined → Type 0 where
   the_scrutinee : {x : ℕ} → is_scrutinee (shape_at l c) vs ≡ true → x ≡ merge_scrutinee l c → l' ≡ l
-      → Merges l c vs l' (Number x)
-  new_output : {o x : ℕ} → is_scrutinee (shape_at l c) vs ≡ false → OutputDefined (merge_node l c) 1 vs l l' (Number o)
-      → x ≡ output_word o → Merges l c vs l' (Number x)
+      → Merges l c vs l' (Ok x)
+  new_output : {o x : ℕ} → is_scrutinee (shape_at l c) vs ≡ false → OutputDefined (merge_node l c) 1 vs l l' (Ok o)
+      → x ≡ output_word o → Merges l c vs l' (Ok x)
   no_output : is_scrutinee (shape_at l c) vs ≡ false → OutputDefined (merge_node l c) 1 vs l l' Full → Merges l c vs l' Full
 
 mutual
   -- From words l condition c is made real; l' are the words then.
   pub data Materializes : List ℕ → ℕ → List ℕ → Defined → Type 0 where
-    made_true : {l l' : List ℕ} {c : ℕ} → c ≡ condition_true → l' ≡ l → Materializes l c l' (Number true_word)
-    made_false : {l l' : List ℕ} {c : ℕ} → c ≡ condition_false → l' ≡ l → Materializes l c l' (Number false_word)
+    made_true : {l l' : List ℕ} {c : ℕ} → c ≡ condition_true → l' ≡ l → Materializes l c l' (Ok true_word)
+    made_false : {l l' : List ℕ} {c : ℕ} → c ≡ condition_false → l' ≡ l → Materializes l c l' (Ok false_word)
     made_undef : {l l' : List ℕ} {c x : ℕ} → (c ≡ condition_true → ⊥) → (c ≡ condition_false → ⊥) → c < merges_from → x ≡ undef_word 1
-        → l' ≡ l → Materializes l c l' (Number x)
+        → l' ≡ l → Materializes l c l' (Ok x)
     made_merge : {l l₁ l' vs : List ℕ} {c : ℕ} {a : Defined} → merges_from ≤ c → PartsMade l c (shape_size (shape_at l c)) l₁ vs
         → Merges l₁ c vs l' a → Materializes l c l' a
     full_part : {l l₁ l' vs : List ℕ} {c j p : ℕ} → merges_from ≤ c → j < shape_size (shape_at l c) → PartsMade l c j l₁ vs
@@ -44,5 +44,5 @@ mutual
   pub data PartsMade : List ℕ → ℕ → ℕ → List ℕ → List ℕ → Type 0 where
     no_part : {l l₁ vs : List ℕ} {c j : ℕ} → j ≡ 0 → l₁ ≡ l → vs ≡ replicate 8 undef_from → PartsMade l c j l₁ vs
     part_more : {l l₁ l₂ vs ws : List ℕ} {c j i p v : ℕ} → PartsMade l c j l₁ vs → j < shape_size (shape_at l c) → p ≡ part_at l₁ c j
-        → Materializes l₁ p l₂ (Number v)
+        → Materializes l₁ p l₂ (Ok v)
         → i ≡ j + 1 → ws ≡ set vs j v → PartsMade l c i l₂ ws

@@ -1,66 +1,50 @@
 // Look-ups, the Rust's RegionInputRewrites::rewrite_all, with document 01's mark; and the note `twice`.
-ghost use Rattle.std.specs.Prelude.{◌≡◌};
+ghost use Rattle.std.specs.Prelude.{◌≡◌, ℕ};
+ghost use Rattle.state_nodes.specs.RewriteKinds as kinds;
 ghost use Rattle.cfg_lookups.specs.LookUps as words;
 
-use state_nodes::rewrites::{
-    NONE, RENUMBER_OR_REPLACE_WITH, REPLACE_WITH, rewrite_kind, rewrite_value,
-};
+use state_nodes::rewrites::{RewriteKind, rewrite_kind, rewrite_value};
 use state_words::defined::{MOST_REGIONS, note_twice};
 use state_words::values::{input_index, input_region, is_held, is_input};
 use store::WORDS;
 
-// What a look_up answers; and whether a marked value was met whose second look_up would change it.
+// What a look_up answers; and a note beside it, no Option: whether a marked value was met whose second look_up would change it.
 #[derive(Clone, Copy)]
 pub struct LookUp {
     pub value: u16,
     pub twice: bool,
 }
 
-fn plain(value: u16) -> LookUp
-    ensures { result ≡ words.plain value }
-{
-    LookUp {
-        value,
-        twice: false,
-    }
-}
-
 // Whether the entry of a marked value's region would change it again: it does not renumber it to itself.
+#[tactic(auto, unfolding(crate::specs::LookUps::changes_again))]
 fn changes_again(w: &[u16; WORDS], v: u16) -> bool
     ensures { result ≡ words.changes_again w.now v }
 {
     let r = input_region(v);
-    let kind = rewrite_kind(w, r);
-    if kind == NONE {
-        return false;
+    match rewrite_kind(w, r) {
+        RewriteKind::NotRewritten => false,
+        RewriteKind::ReplaceWith => true,
+        _ => rewrite_value(w, r, input_index(v)) != v,
     }
-    if kind == REPLACE_WITH {
-        return true;
-    }
-    rewrite_value(w, r, input_index(v)) != v
 }
 
 // A value that is no input unmarked stays.
+#[tactic(auto, unfolding(crate::specs::LookUps::stays))]
 fn stays(w: &[u16; WORDS], v: u16) -> LookUp
     ensures { result ≡ words.stays w.now v }
 {
-    if is_held(v) {
-        return LookUp {
-            value: v,
-            twice: changes_again(w, v),
-        };
+    LookUp {
+        value: v,
+        twice: is_held(v) && changes_again(w, v),
     }
-    plain(v)
 }
 
 // Whether an entry of this kind renumbers an input to x: the look_up ends there.
-fn renumbers(kind: u16, x: u16) -> bool
-    ensures { result ≡ words.renumbers kind x }
+#[tactic(auto, unfolding(crate::specs::LookUps::renumbers))]
+fn renumbers(kind: RewriteKind, x: u16) -> bool
+    ensures { (n : ℕ) → kind ≡ kinds.rewrite_kind_of n → result ≡ words.renumbers n x }
 {
-    if kind == RENUMBER_OR_REPLACE_WITH {
-        return is_held(x);
-    }
-    false
+    kind == RewriteKind::RenumberOrReplaceWith && is_held(x)
 }
 
 // An input is looked up until its region has no entry, or it is marked. No chain passes a region twice.
@@ -68,23 +52,24 @@ pub fn look_up(w: &[u16; WORDS], v: u16) -> LookUp
     ensures { result ≡ words.look_up w.now v }
 {
     let mut x = v;
-    let mut left: u16 = MOST_REGIONS + 1;
-    while 0 < left {
+    for _ in 0..=MOST_REGIONS {
         if !is_input(x) {
             return stays(w, x);
         }
         let r = input_region(x);
         let kind = rewrite_kind(w, r);
-        if kind == NONE {
+        if kind == RewriteKind::NotRewritten {
             break;
         }
         x = rewrite_value(w, r, input_index(x));
         if renumbers(kind, x) {
             break;
         }
-        left -= 1;
     }
-    plain(x)
+    LookUp {
+        value: x,
+        twice: false,
+    }
 }
 
 // The step that looks up takes the note.
@@ -94,7 +79,6 @@ pub fn look_up_noting(w: &mut [u16; WORDS], v: u16) -> u16
     let x = look_up(w, v);
     if x.twice {
         note_twice(w);
-        return x.value;
     }
     x.value
 }

@@ -15,15 +15,7 @@ use store::WORDS;
 fn is_exit_target(w: &[u16; WORDS], r: u16, t: u16) -> bool
     ensures { OfRecord w.now (λ g. result ≡ is_in t (exit_targets g r)) }
 {
-    let n = fields::exit_count(w, r);
-    let mut k: u16 = 0;
-    while k < n {
-        if fields::exit_target(w, r, k) == t {
-            return true;
-        }
-        k += 1;
-    }
-    false
+    (0..fields::exit_count(w, r)).any(|k| fields::exit_target(w, r, k) == t)
 }
 
 fn add_exit_edge(w: &mut [u16; WORDS], r: u16, p: BundleNumber)
@@ -32,7 +24,6 @@ fn add_exit_edge(w: &mut [u16; WORDS], r: u16, p: BundleNumber)
     if is_exit_target(w, r, target(w, p)) {
         let n = accumulated_count(w, p);
         set_accumulated_count(w, p, n.plus(ONE));
-        return;
     }
 }
 
@@ -40,11 +31,7 @@ pub fn add_exit_edges(w: &mut [u16; WORDS], r: u16)
     ensures { OfRecord w.old (λ g. w.new ≡ words.exits_added g r w.old) }
 {
     let start = set_start(w, r);
-    let n = set_length(w, r);
-    let mut i: u16 = 0;
-    while i < n {
-        let p = bundle_at(start, i);
-        add_exit_edge(w, r, p);
-        i += 1;
+    for i in 0..set_length(w, r) {
+        add_exit_edge(w, r, bundle_at(start, i));
     }
 }

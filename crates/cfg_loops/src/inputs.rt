@@ -6,7 +6,7 @@ use cfg_lookups::look_up::look_up_noting;
 use state_nodes::cells::{Cell, add_cell};
 use state_sets::sets::target_input;
 use state_words::bundle_numbers::BundleNumber;
-use state_words::handles::Handle;
+use state_words::handles::{EMPTY, Handle};
 use state_words::values::{held, input};
 use store::WORDS;
 
@@ -33,22 +33,16 @@ pub fn backedge_inputs(w: &[u16; WORDS], p: BundleNumber) -> [u16; 4]
 fn rewrite_value(w: &mut [u16; WORDS], n: u16, k: u16, v: u16) -> u16
     ensures { words.RewritesValue n k v w.old w.new result }
 {
-    if k < n {
-        return look_up_noting(w, v);
-    }
-    v
+    if k < n { look_up_noting(w, v) } else { v }
 }
 
 // The first n values looked up, in turn.
 pub fn rewrite_values(w: &mut [u16; WORDS], vs: &mut [u16; 4], n: u16)
     ensures { words.RewritesValues n 4 w.old vs.old w.new vs.new }
 {
-    let mut k: u16 = 0;
-    while k < 4 {
-        let i = k as usize;
-        let v = vs[i];
-        vs[i] = rewrite_value(w, n, k, v);
-        k += 1;
+    for k in 0..4 {
+        let i = usize::from(k);
+        vs[i] = rewrite_value(w, n, k, vs[i]);
     }
 }
 
@@ -63,19 +57,15 @@ fn keep_input(
     requires { x.count ≤ 4 }
     ensures { words.KeepsInput r wrapper k v x w.old w.new result }
 {
-    let before = x.cells;
-    let h = add_cell(
-        w,
-        Cell::Kept {
-            before,
-            input: k,
-            wrapper,
-            back: v,
-        },
-    );
+    let cell = Cell::Kept {
+        before: x.cells,
+        input: k,
+        wrapper,
+        back: v,
+    };
     LoopInputs {
         count: x.count + 1,
-        cells: h,
+        cells: add_cell(w, cell),
         entry: held(r, x.count),
     }
 }
@@ -93,21 +83,18 @@ fn take_input(
     requires { x.count ≤ 4 }
     ensures { words.TakesInput r wrapper n k v x w.old w.new result }
 {
-    let cells = x.cells;
-    if k < n {
-        if v == input(r, k) {
-            return LoopInputs {
-                count: x.count,
-                cells,
-                entry: input(wrapper, k),
-            };
+    if n <= k {
+        LoopInputs {
+            entry: held(r, k),
+            ..x
         }
-        return keep_input(w, r, wrapper, k, v, x);
-    }
-    LoopInputs {
-        count: x.count,
-        cells,
-        entry: held(r, k),
+    } else if v == input(r, k) {
+        LoopInputs {
+            entry: input(wrapper, k),
+            ..x
+        }
+    } else {
+        keep_input(w, r, wrapper, k, v, x)
     }
 }
 
@@ -117,16 +104,13 @@ pub fn take_inputs(w: &mut [u16; WORDS], r: u16, wrapper: u16, n: u16, vs: &mut 
 {
     let mut x = LoopInputs {
         count: 0,
-        cells: Handle(0),
+        cells: EMPTY,
         entry: 0,
     };
-    let mut k: u16 = 0;
-    while k < 4 {
-        let i = k as usize;
-        let v = vs[i];
-        x = take_input(w, r, wrapper, n, k, v, x);
+    for k in 0..4 {
+        let i = usize::from(k);
+        x = take_input(w, r, wrapper, n, k, vs[i], x);
         vs[i] = x.entry;
-        k += 1;
     }
     x.cells
 }

@@ -6,11 +6,11 @@ use crate::inputs::{backedge_inputs, rewrite_values, take_inputs};
 use cfg_bundles::bundles::condition_in;
 use cfg_lookups::materialize::materialize_lazy_cond;
 use state_nodes::cells::{Cell, add_cell};
-use state_nodes::rewrites::{RENUMBER_OR_REPLACE_WITH, insert_rewrites};
+use state_nodes::rewrites::{RewriteKind, insert_rewrites};
 use state_regions::regions::{children, set_children, set_structured_body};
 use state_sets::sets::{set_length, split_out_target};
 use state_words::bundle_numbers::BundleNumber;
-use state_words::defined::{Defined, Made, define_node, define_region};
+use state_words::defined::{TooMany, define_node, define_region};
 use state_words::handles::Handle;
 use store::WORDS;
 
@@ -32,17 +32,13 @@ fn add_loop(w: &mut [u16; WORDS], r: u16, node: u16, repeat: u16, kept: Handle)
 }
 
 // The repeat condition, then the node.
-fn define_loop(w: &mut [u16; WORDS], r: u16, condition: u16, kept: Handle) -> Made
+fn define_loop(w: &mut [u16; WORDS], r: u16, condition: u16, kept: Handle) -> Result<(), TooMany>
     ensures { words.LoopDefined r condition kept.0 w.old w.new result }
 {
-    let Defined::Number(repeat) = materialize_lazy_cond(w, condition) else {
-        return Made::Full;
-    };
-    let Defined::Number(node) = define_node(w) else {
-        return Made::Full;
-    };
+    let repeat = materialize_lazy_cond(w, condition)?;
+    let node = define_node(w)?;
     add_loop(w, r, node, repeat, kept);
-    Made::Done
+    Ok(())
 }
 
 // The header's inputs, n of them: what the back edge passes is looked up, taken, and entered. The answer is the list of kept inputs.
@@ -51,26 +47,22 @@ fn enter_inputs(w: &mut [u16; WORDS], r: u16, wrapper: u16, n: u16, vs: &mut [u1
 {
     rewrite_values(w, vs, n);
     let kept = take_inputs(w, r, wrapper, n, vs);
-    insert_rewrites(w, r, RENUMBER_OR_REPLACE_WITH, vs);
+    insert_rewrites(w, r, RewriteKind::RenumberOrReplaceWith, vs);
     kept
 }
 
 // The back edge stands at p in region r's set.
-pub fn structurize_loop(w: &mut [u16; WORDS], r: u16, p: BundleNumber) -> Made
+pub fn structurize_loop(w: &mut [u16; WORDS], r: u16, p: BundleNumber) -> Result<(), TooMany>
     ensures { words.StructurizesLoop r p.0 w.old w.new result }
 {
     let n = fields::input_count(w, r);
     let condition = condition_in(w, p, set_length(w, r));
     let mut vs = backedge_inputs(w, p);
     split_out_target(w, r, p);
-    let Defined::Number(wrapper) = define_region(w) else {
-        return Made::Full;
-    };
+    let wrapper = define_region(w)?;
     let kept = enter_inputs(w, r, wrapper, n, &mut vs);
-    if let Made::Full = define_loop(w, r, condition, kept) {
-        return Made::Full;
-    }
+    define_loop(w, r, condition, kept)?;
     set_structured_body(w, r, wrapper);
     add_exit_edges(w, r);
-    Made::Done
+    Ok(())
 }

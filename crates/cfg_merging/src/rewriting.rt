@@ -1,4 +1,5 @@
-// The values of the cases, each looked up.
+// The values of the cases, each looked up. The loops and the pairs of load and store are alike and stay apart: a closure for what differs
+// would need a clause on each of its calls, longer than they are.
 ghost use Rattle.std.specs.Prelude.{◌≡◌};
 ghost use Rattle.record.specs.Stands.{OfRecord};
 ghost use Rattle.cfg_merging.specs.Rewriting as words;
@@ -6,7 +7,7 @@ ghost use Rattle.cfg_merging.specs.Rewriting as words;
 use cfg_bundles::bundles::target_input_count;
 use cfg_lookups::look_up::look_up_noting;
 use state_regions::cases::{
-    CLAIMED_REGION, case_count, case_input, case_kind, case_length, case_origin, case_start,
+    CaseKind, case_count, case_input, case_kind, case_length, case_origin, case_start,
     set_case_input,
 };
 use state_sets::sets::{bundle_at, set_target_input, target, target_input};
@@ -25,20 +26,16 @@ fn rewrite_bundle(w: &mut [u16; WORDS], p: BundleNumber)
     ensures { OfRecord w.old (λ g. w.new ≡ words.rewrite_bundle g w.old p.0) }
 {
     let n = target_input_count(w, target(w, p));
-    let mut k: u16 = 0;
-    while k < n {
+    for k in 0..n {
         rewrite_input(w, p, k);
-        k += 1;
     }
 }
 
 fn rewrite_set(w: &mut [u16; WORDS], start: BundleNumber, n: u16)
     ensures { OfRecord w.old (λ g. w.new ≡ words.rewrite_set g w.old start.0 n) }
 {
-    let mut i: u16 = 0;
-    while i < n {
+    for i in 0..n {
         rewrite_bundle(w, bundle_at(start, i));
-        i += 1;
     }
 }
 
@@ -54,10 +51,8 @@ fn rewrite_inputs(w: &mut [u16; WORDS], j: u16)
     ensures { OfRecord w.old (λ g. w.new ≡ words.rewrite_inputs g w.old j) }
 {
     let n = fields::input_count(w, case_origin(w, j));
-    let mut k: u16 = 0;
-    while k < n {
+    for k in 0..n {
         rewrite_case_input(w, j, k);
-        k += 1;
     }
 }
 
@@ -65,9 +60,8 @@ fn rewrite_inputs(w: &mut [u16; WORDS], j: u16)
 fn rewrite_given(w: &mut [u16; WORDS], j: u16)
     ensures { OfRecord w.old (λ g. w.new ≡ words.rewrite_given g w.old j) }
 {
-    if case_kind(w, j) == CLAIMED_REGION {
+    if case_kind(w, j) == CaseKind::ClaimedRegion {
         rewrite_inputs(w, j);
-        return;
     }
 }
 
@@ -84,9 +78,7 @@ pub fn rewrite_cases(w: &mut [u16; WORDS])
     ensures { OfRecord w.old (λ g. w.new ≡ words.rewrite_cases g w.old) }
 {
     let n = case_count(w);
-    let mut j: u16 = 0;
-    while j < n {
+    for j in 0..n {
         rewrite_case(w, j);
-        j += 1;
     }
 }

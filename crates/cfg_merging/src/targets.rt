@@ -5,21 +5,11 @@ ghost use Rattle.cfg_merging.specs.Targets as words;
 use state_nodes::conditions::TRUE_COND;
 use state_regions::cases::{case_count, case_length, case_start};
 use state_sets::sets::{
-    NO_BUNDLE, SPARE, accumulated_count, bundle_at, find_by_target, put_set_length,
-    set_accumulated_count, set_bundle, set_length, set_start, target,
+    SPARE, accumulated_count, bundle_at, find_by_target, put_set_length, set_accumulated_count,
+    set_bundle, set_length, set_start, target,
 };
 use state_words::bundle_numbers::BundleNumber;
 use store::WORDS;
-
-// The length of a set of n bundles with k more. It stops at the largest word.
-fn longer(n: u16, k: u16) -> u16
-    ensures { result ≡ words.longer n k }
-{
-    if n < 65535 - k {
-        return n + k;
-    }
-    65535
-}
 
 fn summarize_bundle(w: &mut [u16; WORDS], p: BundleNumber)
     ensures { w.new ≡ words.summarize_bundle w.old p.0 }
@@ -28,23 +18,23 @@ fn summarize_bundle(w: &mut [u16; WORDS], p: BundleNumber)
     let n = set_length(w, SPARE);
     let t = target(w, p);
     let count = accumulated_count(w, p);
-    let q = find_by_target(w, start, n, t);
-    if q.0 == NO_BUNDLE {
-        set_bundle(w, bundle_at(start, n), t, count, TRUE_COND);
-        put_set_length(w, SPARE, longer(n, 1));
-        return;
+    match find_by_target(w, start, n, t) {
+        None => {
+            set_bundle(w, bundle_at(start, n), t, count, TRUE_COND);
+            put_set_length(w, SPARE, n.saturating_add(1));
+        }
+        Some(q) => {
+            let before = accumulated_count(w, q);
+            set_accumulated_count(w, q, before.plus(count));
+        }
     }
-    let before = accumulated_count(w, q);
-    set_accumulated_count(w, q, before.plus(count));
 }
 
 fn summarize_set(w: &mut [u16; WORDS], start: BundleNumber, n: u16)
     ensures { w.new ≡ words.summarize_set w.old start.0 n }
 {
-    let mut i: u16 = 0;
-    while i < n {
+    for i in 0..n {
         summarize_bundle(w, bundle_at(start, i));
-        i += 1;
     }
 }
 
@@ -53,11 +43,9 @@ pub fn deferred_targets(w: &mut [u16; WORDS])
 {
     put_set_length(w, SPARE, 0);
     let n = case_count(w);
-    let mut j: u16 = 0;
-    while j < n {
+    for j in 0..n {
         let start = case_start(w, j);
         let length = case_length(w, j);
         summarize_set(w, start, length);
-        j += 1;
     }
 }

@@ -6,7 +6,7 @@ ghost use Rattle.cfg_planning.specs.Planning as words;
 use cfg_bundles::bundles::{condition_in, target_input_count};
 use state_nodes::conditions::{FALSE_COND, TRUE_COND, UNDEF_COND};
 use state_regions::cases::{
-    CLAIMED_REGION, case_body, case_count, case_input, case_kind, case_length, case_start,
+    CaseKind, case_body, case_count, case_input, case_kind, case_length, case_start,
 };
 use state_sets::sets::{
     NO_BUNDLE, SPARE, bundle_at, find_by_target, set_condition, set_length, set_start,
@@ -16,69 +16,64 @@ use state_words::bundle_numbers::BundleNumber;
 use state_words::values::{input_index, input_region, is_const, is_input};
 use store::WORDS;
 
-// An input that is to be an output of the select, and a condition that is to be a record of it.
+// An input that is to be an output of the select, and a condition that is to be a record of it. They stand in the lent words, so they
+// are numbers.
 pub const TO_MERGE: u16 = 65535;
 
 pub const TO_DEFINE: u16 = 0;
 
-// The cases' bundles to a target.
+// The cases' bundles to a target, by number: the definition has 0 behind the last case, so no Option here.
 pub fn per_case_deferred(w: &[u16; WORDS], t: u16) -> [u16; 8]
     ensures { result ≡ words.per_case_deferred w.now t }
 {
     let n = case_count(w);
     let mut places = [0u16; 8];
-    let mut j: u16 = 0;
-    while j < n {
+    for j in 0..n {
         let p = find_by_target(w, case_start(w, j), case_length(w, j), t);
-        places[j as usize] = p.0;
-        j += 1;
+        places[usize::from(j)] = p.map_or(NO_BUNDLE, |b| b.0);
     }
     places
 }
 
 // Undef if the case ends, False if it goes elsewhere.
+#[tactic(auto, unfolding(crate::specs::Planning::per_case_condition))]
 pub fn per_case_condition(w: &[u16; WORDS], j: u16, p: BundleNumber) -> u16
     ensures { result ≡ words.per_case_condition w.now j p.0 }
 {
     let n = case_length(w, j);
     if n == 0 {
-        return UNDEF_COND;
+        UNDEF_COND
+    } else if p.0 == NO_BUNDLE {
+        FALSE_COND
+    } else {
+        condition_in(w, p, n)
     }
-    if p.0 == NO_BUNDLE {
-        return FALSE_COND;
-    }
-    condition_in(w, p, n)
 }
 
 // A case's value as one that is valid in the select's parent; TO_MERGE where it can't be.
+#[tactic(auto, unfolding(crate::specs::Planning::in_parent))]
 fn in_parent(w: &[u16; WORDS], j: u16, v: u16) -> u16
     ensures { result ≡ words.in_parent w.now j v }
 {
-    if case_kind(w, j) != CLAIMED_REGION {
-        return v;
+    if case_kind(w, j) != CaseKind::ClaimedRegion || is_const(v) {
+        v
+    } else if is_input(v) && input_region(v) == case_body(w, j) {
+        case_input(w, j, input_index(v))
+    } else {
+        TO_MERGE
     }
-    if is_const(v) {
-        return v;
-    }
-    if is_input(v) {
-        if input_region(v) == case_body(w, j) {
-            return case_input(w, j, input_index(v));
-        }
-    }
-    TO_MERGE
 }
 
 // What the cases so far pass, with one more: TO_MERGE where they differ.
+#[tactic(auto, unfolding(crate::specs::Planning::with_passed))]
 fn with_passed(found: u16, v: u16) -> u16
     ensures { result ≡ words.with_passed found v }
 {
-    if found == TO_MERGE {
-        return v;
+    if found == TO_MERGE || found == v {
+        v
+    } else {
+        TO_MERGE
     }
-    if found == v {
-        return v;
-    }
-    TO_MERGE
 }
 
 // The Rust's unique_target_input_value: the same value in all cases that reach the target, else TO_MERGE.
@@ -87,9 +82,8 @@ fn unique_input(w: &[u16; WORDS], places: &[u16; 8], k: u16) -> u16
 {
     let n = case_count(w);
     let mut found = TO_MERGE;
-    let mut j: u16 = 0;
-    while j < n {
-        let p = places[j as usize];
+    for j in 0..n {
+        let p = places[usize::from(j)];
         if p != NO_BUNDLE {
             let v = in_parent(w, j, target_input(w, BundleNumber(p), k));
             found = with_passed(found, v);
@@ -97,34 +91,24 @@ fn unique_input(w: &[u16; WORDS], places: &[u16; 8], k: u16) -> u16
                 return TO_MERGE;
             }
         }
-        j += 1;
     }
     found
 }
 
+#[tactic(auto, unfolding(crate::specs::Planning::is_true))]
 fn is_true(c: u16) -> bool
     ensures { result ≡ words.is_true c }
 {
-    if c == TRUE_COND {
-        return true;
-    }
-    c == UNDEF_COND
+    c == TRUE_COND || c == UNDEF_COND
 }
 
 // Document 01: a condition is True when every case is True or Undef.
 fn all_true(w: &[u16; WORDS], places: &[u16; 8]) -> bool
     ensures { result ≡ words.all_true w.now places.now }
 {
-    let n = case_count(w);
-    let mut j: u16 = 0;
-    while j < n {
-        let p = places[j as usize];
-        if !is_true(per_case_condition(w, j, BundleNumber(p))) {
-            return false;
-        }
-        j += 1;
-    }
-    true
+    (0..case_count(w)).all(|j| {
+        is_true(per_case_condition(w, j, BundleNumber(places[usize::from(j)])))
+    })
 }
 
 // Each answers whether something is still to be made.
@@ -142,12 +126,8 @@ fn plan_inputs(w: &mut [u16; WORDS], q: BundleNumber, places: &[u16; 8]) -> bool
 {
     let n = target_input_count(w, target(w, q));
     let mut merged = false;
-    let mut k: u16 = 0;
-    while k < n {
-        if plan_input(w, q, places, k) {
-            merged = true;
-        }
-        k += 1;
+    for k in 0..n {
+        merged |= plan_input(w, q, places, k);
     }
     merged
 }
@@ -158,10 +138,11 @@ fn plan_bundle(w: &mut [u16; WORDS], q: BundleNumber) -> bool
     let places = per_case_deferred(w, target(w, q));
     let merged = plan_inputs(w, q, &places);
     if all_true(w, &places) {
-        return merged;
+        merged
+    } else {
+        set_condition(w, q, TO_DEFINE);
+        true
     }
-    set_condition(w, q, TO_DEFINE);
-    true
 }
 
 pub fn plan_bundles(w: &mut [u16; WORDS]) -> bool
@@ -170,12 +151,8 @@ pub fn plan_bundles(w: &mut [u16; WORDS]) -> bool
     let start = set_start(w, SPARE);
     let n = set_length(w, SPARE);
     let mut needed = false;
-    let mut i: u16 = 0;
-    while i < n {
-        if plan_bundle(w, bundle_at(start, i)) {
-            needed = true;
-        }
-        i += 1;
+    for i in 0..n {
+        needed |= plan_bundle(w, bundle_at(start, i));
     }
     needed
 }

@@ -6,8 +6,8 @@ use Rattle.fields.specs.ByNumber.{end_values}
 use Rattle.fields.specs.Shape.{value_is, terminator_is}
 use Rattle.fields.specs.declared.shape.Value.{Value}
 use Rattle.fields.specs.declared.shape.Terminator.TheVariants.{Unreachable, Return, ExitInvocation, Branch, SelectBool, SelectNumber}
-use Rattle.state_words.specs.declared.defined.Defined.TheVariants.{Number}
-use Rattle.state_words.specs.declared.defined.Defined.TheVariants as defined
+use Rattle.std.specs.Prelude.{Ok}
+use Rattle.state_words.specs.Totals.{Made, Done, Full}
 use Rattle.state_words.specs.Sections.{word, stored, kinds, backedges, children, set_starts, set_lengths}
 use Rattle.state_nodes.specs.NodeTables.{Adds}
 use Rattle.state_words.specs.Totals.{Defines}
@@ -15,8 +15,6 @@ use Rattle.state_sets.specs.SetTables.{bundle_at}
 use Rattle.state_regions.specs.RegionTables.{case_row}
 use Rattle.state_words.specs.Values.{value_word}
 use Rattle.cfg_bundles.specs.EdgesAndCases.{condition_in, return_deferred, cases_filled, split_filled, Appends}
-use Rattle.state_words.specs.declared.defined.Made.{Made}
-use Rattle.state_words.specs.declared.defined.Made.TheVariants.{Done, Full}
 use Rattle.cfg_select_nodes.specs.declared.define.Scrutinee.TheVariants as scrutinee
 use Rattle.cfg_selects.specs.Into.{StructurizesInto}
 use Rattle.cfg_regions.specs.ByState.{backedge_at}
@@ -30,8 +28,8 @@ pub data AddsBlocks (g : Graph) (w : List ℕ) (r : ℕ) (w' : List ℕ) : Type 
       → AddsBlocks g w r w'
 
 pub data AddsExit (w : List ℕ) (r : ℕ) (w' : List ℕ) : Made → Type 0 where
-  exit_full : Defines nodes_at most_nodes w w' defined.Full → AddsExit w r w' Full
-  exit_added : {w₁ w₂ : List ℕ} {node h : ℕ} → Defines nodes_at most_nodes w w₁ (Number node)
+  exit_full : Defines nodes_at most_nodes w w' Full → AddsExit w r w' Full
+  exit_added : {w₁ w₂ : List ℕ} {node h : ℕ} → Defines nodes_at most_nodes w w₁ (Ok node)
       → Adds w₁ w₂ (Exit (word w₁ children r) node r) h → w' ≡ stored w₂ children r h → AddsExit w r w' Done
 
 pub data Branches (g : Graph) (w : List ℕ) (r : ℕ) (w' : List ℕ) : Made → Type 0 where

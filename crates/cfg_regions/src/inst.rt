@@ -14,14 +14,14 @@ use fields::Terminator;
 use state_nodes::cells::{Cell, add_cell};
 use state_nodes::conditions::BOOL_COND;
 use state_regions::cases::case_at;
-use state_regions::regions::{READY, children, set_backedge_count, set_children, set_region_state};
-use state_sets::sets::{
-    NO_BUNDLE, accumulated_count, bundle_at, put_set_length, set_length, set_start,
+use state_regions::regions::{
+    RegionState, children, set_backedge_count, set_children, set_region_state,
 };
+use state_sets::sets::{accumulated_count, bundle_at, put_set_length, set_length, set_start};
 use state_words::bundle_numbers::BundleNumber;
-use state_words::defined::{Defined, Made, define_node};
+use state_words::defined::{TooMany, define_node};
 use state_words::edges::IncomingEdgeCount;
-use state_words::handles::Handle;
+use state_words::handles::EMPTY;
 use state_words::values::value_word;
 use store::WORDS;
 
@@ -29,20 +29,18 @@ use store::WORDS;
 fn add_blocks(w: &mut [u16; WORDS], r: u16)
     ensures { OfRecord w.old (λ g. words.AddsBlocks g w.old r w.new) }
 {
-    if fields::block_count(w, r) == 0 {
-        set_children(w, r, Handle(0));
-        return;
-    }
-    let h = add_cell(w, Cell::Blocks { region: r });
+    let h = if fields::block_count(w, r) == 0 {
+        EMPTY
+    } else {
+        add_cell(w, Cell::Blocks { region: r })
+    };
     set_children(w, r, h);
 }
 
-fn add_exit(w: &mut [u16; WORDS], r: u16) -> Made
+fn add_exit(w: &mut [u16; WORDS], r: u16) -> Result<(), TooMany>
     ensures { words.AddsExit w.old r w.new result }
 {
-    let Defined::Number(node) = define_node(w) else {
-        return Made::Full;
-    };
+    let node = define_node(w)?;
     let before = children(w, r);
     let h = add_cell(
         w,
@@ -53,19 +51,19 @@ fn add_exit(w: &mut [u16; WORDS], r: u16) -> Made
         },
     );
     set_children(w, r, h);
-    Made::Done
+    Ok(())
 }
 
-fn branch(w: &mut [u16; WORDS], r: u16) -> Made
+fn branch(w: &mut [u16; WORDS], r: u16) -> Result<(), TooMany>
     ensures { OfRecord w.old (λ g. words.Branches g w.old r w.new result) }
 {
     fill_cases(w, r);
     let x = case_at(w, 0);
     append_maybe_claimed_region(w, r, x, 0);
-    Made::Done
+    Ok(())
 }
 
-fn select(w: &mut [u16; WORDS], r: u16, shape: u16) -> Made
+fn select(w: &mut [u16; WORDS], r: u16, shape: u16) -> Result<(), TooMany>
     ensures { OfRecord w.old (λ g. words.Selects g w.old r shape w.new result) }
 {
     fill_cases(w, r);
@@ -73,7 +71,7 @@ fn select(w: &mut [u16; WORDS], r: u16, shape: u16) -> Made
     structurize_select_into(w, r, shape, Scrutinee::Value(value_word(v)))
 }
 
-fn select_number(w: &mut [u16; WORDS], r: u16) -> Made
+fn select_number(w: &mut [u16; WORDS], r: u16) -> Result<(), TooMany>
     ensures { OfRecord w.old (λ g. words.SelectsNumber g w.old r w.new result) }
 {
     let shape = fields::target_count(w, r);
@@ -81,15 +79,15 @@ fn select_number(w: &mut [u16; WORDS], r: u16) -> Made
 }
 
 // By the terminator of region r, whose blocks are its children and whose set is empty.
-fn by_terminator(w: &mut [u16; WORDS], r: u16) -> Made
+fn by_terminator(w: &mut [u16; WORDS], r: u16) -> Result<(), TooMany>
     ensures { OfRecord w.old (λ g. words.ByTerminator g w.old r w.new result) }
 {
     let kind = fields::terminator(w, r);
     match kind {
-        Terminator::Unreachable => Made::Done,
+        Terminator::Unreachable => Ok(()),
         Terminator::Return => {
             defer_return(w, r);
-            Made::Done
+            Ok(())
         }
         Terminator::ExitInvocation(_) => add_exit(w, r),
         Terminator::Branch => branch(w, r),
@@ -99,7 +97,7 @@ fn by_terminator(w: &mut [u16; WORDS], r: u16) -> Made
 }
 
 // The Rust's match on the control instruction.
-pub fn by_control_inst(w: &mut [u16; WORDS], r: u16) -> Made
+pub fn by_control_inst(w: &mut [u16; WORDS], r: u16) -> Result<(), TooMany>
     ensures { OfRecord w.old (λ g. words.ByControlInst g w.old r w.new result) }
 {
     add_blocks(w, r);
@@ -115,7 +113,7 @@ pub fn own_bundle(w: &[u16; WORDS], r: u16, i: u16) -> BundleNumber
 }
 
 // A select on the condition of bundle i: the region that it claimed, or the others.
-pub fn resolve_by(w: &mut [u16; WORDS], r: u16, i: u16) -> Made
+pub fn resolve_by(w: &mut [u16; WORDS], r: u16, i: u16) -> Result<(), TooMany>
     ensures { OfRecord w.old (λ g. words.ResolvesBy g w.old r i w.new result) }
 {
     let n = set_length(w, r);
@@ -129,11 +127,10 @@ pub fn resolve_by(w: &mut [u16; WORDS], r: u16, i: u16) -> Made
 fn backedges_deferred(w: &[u16; WORDS], r: u16) -> IncomingEdgeCount
     ensures { (result.0 ≡ words.backedges_deferred w.now r) × (result.0 ≤ 65535) }
 {
-    let p = find_backedge(w, r);
-    if p.0 == NO_BUNDLE {
-        return IncomingEdgeCount::zero();
+    match find_backedge(w, r) {
+        None => IncomingEdgeCount::zero(),
+        Some(p) => accumulated_count(w, p),
     }
-    accumulated_count(w, p)
 }
 
 // The count of back edges is kept with the region.
@@ -142,5 +139,5 @@ pub fn make_ready(w: &mut [u16; WORDS], r: u16)
 {
     let n = backedges_deferred(w, r);
     set_backedge_count(w, r, n);
-    set_region_state(w, r, READY);
+    set_region_state(w, r, RegionState::Ready);
 }

@@ -1,13 +1,12 @@
 -- The cases of a select, as the words alone have them.
-use Rattle.std.specs.Prelude.{◌≡◌, Bool, true, false, List, ℕ, zero, suc, ◌-◌, eqb}
-use Rattle.state_words.specs.declared.defined.Defined.TheVariants.{Number, Full as Refused}
+use Rattle.std.specs.Prelude.{◌≡◌, Bool, true, false, List, ℕ, zero, suc, ◌-◌, eqb, Option, Some, None}
+use Rattle.std.specs.Prelude.{Ok}
+use Rattle.state_words.specs.Totals.{Made, Done, Full}
 use Rattle.state_words.specs.Sections.{stored, cases}
 use Rattle.state_regions.specs.RegionTables.{case_total}
 use Rattle.state_words.specs.Totals.{Defines}
 use Rattle.state_nodes.specs.NodeTables.{inserted}
 use Rattle.cfg_bundles.specs.EdgesAndCases.{case_inputs}
-use Rattle.state_words.specs.declared.defined.Made.{Made}
-use Rattle.state_words.specs.declared.defined.Made.TheVariants.{Done, Full}
 use Rattle.meaning.specs.Lists.{pick}
 use Rattle.nesting.specs.Nesting.{most_regions}
 use Rattle.state_words.specs.Rows.{case_body, case_body_at, case_children, case_claimed, case_kind, case_set_length, entry_replace}
@@ -21,6 +20,11 @@ convergent_from l (suc n) j found =
 
 abbrev pub convergent_case : List ℕ → ℕ
 convergent_case l = convergent_from l (case_total l) 0 8
+
+-- What the search answered, as a number: 8 for none.
+abbrev pub place_of : Option ℕ → ℕ
+place_of None = 8
+place_of (Some j) = j
 
 -- Only a claimed region has children.
 unfoldable pub children_of : List ℕ → ℕ → ℕ
@@ -36,9 +40,9 @@ any_non_empty_case l = any_from l (case_total l) 0
 -- Case j has its region: a claimed one has it already.
 pub data GetsRegion (j : ℕ) (l l' : List ℕ) : Made → Type 0 where
   has_region : case_kind l j ≡ case_claimed → l' ≡ l → GetsRegion j l l' Done
-  new_region : {r : ℕ} {l₁ : List ℕ} → (case_kind l j ≡ case_claimed → ⊥) → Defines regions_at most_regions l l₁ (Number r)
+  new_region : {r : ℕ} {l₁ : List ℕ} → (case_kind l j ≡ case_claimed → ⊥) → Defines regions_at most_regions l l₁ (Ok r)
       → l' ≡ stored l₁ cases (case_body_at j) r → GetsRegion j l l' Done
-  no_region : (case_kind l j ≡ case_claimed → ⊥) → Defines regions_at most_regions l l' Refused → GetsRegion j l l' Full
+  no_region : (case_kind l j ≡ case_claimed → ⊥) → Defines regions_at most_regions l l' Full → GetsRegion j l l' Full
 
 unfoldable pub inputs_replaced : List ℕ → ℕ → List ℕ
 inputs_replaced l j = pick (eqb (case_kind l j) case_claimed) (inserted l (case_body l j) entry_replace (case_inputs l j)) l

@@ -3,8 +3,7 @@ use Rattle.std.specs.Prelude.{◌≡◌, List, ℕ, suc, ◌-◌}
 use Rattle.meaning.specs.Graph.{Graph}
 use Rattle.record.specs.Stands.{Stands}
 use Rattle.state_shown.specs.Front.{SameKinds}
-use Rattle.state_words.specs.declared.defined.Made.{Made}
-use Rattle.state_words.specs.declared.defined.Made.TheVariants.{Done, Full}
+use Rattle.state_words.specs.Totals.{Made, Done, Full}
 
 -- What the step at a place makes of the words.
 abbrev pub Steps : Type 1

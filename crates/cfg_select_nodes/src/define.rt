@@ -7,8 +7,8 @@ use cfg_lookups::materialize::materialize_lazy_cond;
 use state_nodes::cells::{Cell, add_cell};
 use state_regions::cases::{case_body, case_count};
 use state_regions::regions::{children, set_children};
-use state_words::defined::{Defined, Made, define_node};
-use state_words::handles::Handle;
+use state_words::defined::{TooMany, define_node};
+use state_words::handles::{EMPTY, Handle};
 use store::WORDS;
 
 // The Rust's Result<Value, &LazyCond>.
@@ -18,11 +18,11 @@ pub enum Scrutinee {
     Lazy(u16),
 }
 
-fn scrutinee_value(w: &mut [u16; WORDS], scrutinee: Scrutinee) -> Defined
+fn scrutinee_value(w: &mut [u16; WORDS], scrutinee: Scrutinee) -> Result<u16, TooMany>
     ensures { words.ScrutineeMade w.old scrutinee w.new result }
 {
     match scrutinee {
-        Scrutinee::Value(v) => Defined::Number(v),
+        Scrutinee::Value(v) => Ok(v),
         Scrutinee::Lazy(c) => materialize_lazy_cond(w, c),
     }
 }
@@ -31,10 +31,9 @@ fn scrutinee_value(w: &mut [u16; WORDS], scrutinee: Scrutinee) -> Defined
 fn case_cells(w: &mut [u16; WORDS]) -> Handle
     ensures { words.CaseCells (tables.case_total w.old) 0 w.old w.new result.0 }
 {
-    let mut h = Handle(0);
-    let mut j = case_count(w);
-    while 0 < j {
-        j -= 1;
+    let mut h = EMPTY;
+    let n = case_count(w);
+    for j in (0..n).rev() {
         let body = case_body(w, j);
         let kids = children_of(w, j);
         h = add_cell(
@@ -70,18 +69,17 @@ fn add_select(w: &mut [u16; WORDS], r: u16, node: u16, shape: u16, v: u16) -> Ha
 }
 
 // The Rust's order of definitions: new case regions, what the scrutinee adds, the node.
-pub fn define_select(w: &mut [u16; WORDS], r: u16, shape: u16, scrutinee: Scrutinee) -> Defined
+pub fn define_select(
+    w: &mut [u16; WORDS],
+    r: u16,
+    shape: u16,
+    scrutinee: Scrutinee,
+) -> Result<u16, TooMany>
     ensures { words.SelectDefined r shape scrutinee w.old w.new result }
 {
-    if let Made::Full = case_regions(w) {
-        return Defined::Full;
-    }
-    let Defined::Number(v) = scrutinee_value(w, scrutinee) else {
-        return Defined::Full;
-    };
-    let Defined::Number(node) = define_node(w) else {
-        return Defined::Full;
-    };
+    case_regions(w)?;
+    let v = scrutinee_value(w, scrutinee)?;
+    let node = define_node(w)?;
     let h = add_select(w, r, node, shape, v);
-    Defined::Number(h.0)
+    Ok(h.0)
 }

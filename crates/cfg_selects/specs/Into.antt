@@ -1,7 +1,9 @@
 -- A select and what follows it, as the words and the graph have them.
 use Rattle.std.specs.Prelude.{◌≡◌, Bool, true, false, ◌||◌, List, ℕ, ◌≤◌, ◌<◌}
 use Rattle.meaning.specs.Graph.{Graph}
-use Rattle.state_words.specs.declared.defined.Defined.TheVariants.{Number, Full as Refused}
+use Rattle.std.specs.Prelude.{Ok}
+use Rattle.state_regions.specs.declared.cases.CaseKind.TheVariants.{NothingDeferred}
+use Rattle.state_words.specs.Totals.{Made, Done, Full}
 use Rattle.state_words.specs.Sections.{word, stored, stored_all, set_lengths, cases}
 use Rattle.state_regions.specs.RegionTables.{case_total, case_row, case_words}
 use Rattle.state_sets.specs.SetTables.{swapped}
@@ -9,18 +11,16 @@ use Rattle.cfg_bundles.specs.EdgesAndCases.{unclaimed_case, Appends}
 use Rattle.cfg_merging.specs.Rewriting.{rewrite_cases}
 use Rattle.cfg_merging.specs.Targets.{deferred_targets}
 use Rattle.cfg_planning.specs.Planning.{plan_bundles}
-use Rattle.state_words.specs.declared.defined.Made.{Made}
-use Rattle.state_words.specs.declared.defined.Made.TheVariants.{Done, Full}
 use Rattle.cfg_select_nodes.specs.declared.define.Scrutinee.{Scrutinee}
 use Rattle.cfg_select_nodes.specs.Cases.{convergent_case, any_non_empty_case, all_replaced}
 use Rattle.cfg_select_nodes.specs.Selects.{SelectDefined}
 use Rattle.cfg_emits.specs.Emits.{Emits}
-use Rattle.state_words.specs.Rows.{case_nothing, case_row_at, spare_slot}
+use Rattle.state_words.specs.Rows.{case_row_at, spare_slot}
 
 pub data SelectIf (g : Graph) (needed : Bool) (r shape : ℕ) (x : Scrutinee) (l l' : List ℕ) : Made → Type 0 where
   not_needed : needed ≡ false → l' ≡ l → SelectIf g needed r shape x l l' Done
-  select_refused : needed ≡ true → SelectDefined r shape x l l' Refused → SelectIf g needed r shape x l l' Full
-  select_made : {l₁ : List ℕ} {h : ℕ} {a : Made} → needed ≡ true → SelectDefined r shape x l l₁ (Number h) → Emits g h l₁ l' a
+  select_refused : needed ≡ true → SelectDefined r shape x l l' Full → SelectIf g needed r shape x l l' Full
+  select_made : {l₁ : List ℕ} {h : ℕ} {a : Made} → needed ≡ true → SelectDefined r shape x l l₁ (Ok h) → Emits g h l₁ l' a
       → SelectIf g needed r shape x l l' a
 
 -- ---- With no convergent case set aside.
@@ -46,7 +46,7 @@ spare_taken l r = stored (swapped l r spare_slot) set_lengths r (word l set_leng
 
 -- Case j is set aside: it is Unreachable.
 abbrev pub set_aside : List ℕ → ℕ → List ℕ
-set_aside l j = stored_all l cases (case_row_at j) (case_words (unclaimed_case case_nothing 0 0))
+set_aside l j = stored_all l cases (case_row_at j) (case_words (unclaimed_case NothingDeferred 0 0))
 
 pub data StructurizesInto (g : Graph) (r shape : ℕ) (x : Scrutinee) (l l' : List ℕ) : Made → Type 0 where
   one_follows : {l₁ : List ℕ} → convergent_case l < 8 → StructurizesSelect g r shape x (set_aside l (convergent_case l)) l₁ Done

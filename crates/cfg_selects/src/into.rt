@@ -1,6 +1,6 @@
 // A select and what follows it, the Rust's structurize_select_into: plan, define the select if it is needed, emit what it defers,
 // replace inputs. The sole convergent case goes after it.
-ghost use Rattle.std.specs.Prelude.{◌≡◌, ◌||◌};
+ghost use Rattle.std.specs.Prelude.{◌≡◌};
 ghost use Rattle.record.specs.Stands.{OfRecord};
 ghost use Rattle.cfg_selects.specs.Into as words;
 
@@ -12,48 +12,46 @@ use cfg_merging::targets::deferred_targets;
 use cfg_planning::planning::plan_bundles;
 use cfg_select_nodes::cases::{any_non_empty_case, convergent_case, replace_inputs};
 use cfg_select_nodes::define::{Scrutinee, define_select};
-use state_regions::cases::{NOTHING_DEFERRED, case_at, set_case};
+use state_regions::cases::{CaseKind, case_at, set_case};
 use state_sets::sets::{SPARE, put_set_length, set_length, swap_sets};
 use state_words::bundle_numbers::BundleNumber;
-use state_words::defined::{Defined, Made};
+use state_words::defined::TooMany;
 use state_words::handles::Handle;
 use store::WORDS;
 
-fn either(a: bool, b: bool) -> bool
-    ensures { result ≡ (a || b) }
-{
-    if a {
-        return true;
-    }
-    b
-}
-
-fn select_if(w: &mut [u16; WORDS], needed: bool, r: u16, shape: u16, scrutinee: Scrutinee) -> Made
+fn select_if(
+    w: &mut [u16; WORDS],
+    needed: bool,
+    r: u16,
+    shape: u16,
+    scrutinee: Scrutinee,
+) -> Result<(), TooMany>
     ensures { OfRecord w.old (λ g. words.SelectIf g needed r shape scrutinee w.old w.new result) }
 {
     if !needed {
-        return Made::Done;
+        return Ok(());
     }
-    match define_select(w, r, shape, scrutinee) {
-        Defined::Full => Made::Full,
-        Defined::Number(h) => emit_bundles(w, Handle(h)),
-    }
+    let h = define_select(w, r, shape, scrutinee)?;
+    emit_bundles(w, Handle(h))
 }
 
 // With no convergent case set aside. What the cases defer stands in the spare slot.
-fn structurize_select(w: &mut [u16; WORDS], r: u16, shape: u16, scrutinee: Scrutinee) -> Made
+fn structurize_select(
+    w: &mut [u16; WORDS],
+    r: u16,
+    shape: u16,
+    scrutinee: Scrutinee,
+) -> Result<(), TooMany>
     ensures { OfRecord w.old (λ g. words.StructurizesSelect g r shape scrutinee w.old w.new result) }
 {
     let full = any_non_empty_case(w);
     rewrite_cases(w);
     deferred_targets(w);
     let merged = plan_bundles(w);
-    let needed = either(full, merged);
-    if let Made::Full = select_if(w, needed, r, shape, scrutinee) {
-        return Made::Full;
-    }
+    let needed = full || merged;
+    select_if(w, needed, r, shape, scrutinee)?;
     replace_inputs(w);
-    Made::Done
+    Ok(())
 }
 
 // The set that was made in the spare slot becomes region r's.
@@ -71,22 +69,21 @@ pub fn structurize_select_into(
     r: u16,
     shape: u16,
     scrutinee: Scrutinee,
-) -> Made
+) -> Result<(), TooMany>
     ensures { OfRecord w.old (λ g. words.StructurizesInto g r shape scrutinee w.old w.new result) }
 {
-    let j = convergent_case(w);
-    if j < 8 {
+    if let Some(j) = convergent_case(w) {
         let x = case_at(w, j);
-        set_case(w, j, unclaimed_case(NOTHING_DEFERRED, BundleNumber(0), 0));
-        if let Made::Full = structurize_select(w, r, shape, scrutinee) {
-            return Made::Full;
-        }
+        set_case(
+            w,
+            j,
+            unclaimed_case(CaseKind::NothingDeferred, BundleNumber(0), 0),
+        );
+        structurize_select(w, r, shape, scrutinee)?;
         append_maybe_claimed_region(w, r, x, j);
-        return Made::Done;
+        return Ok(());
     }
-    if let Made::Full = structurize_select(w, r, shape, scrutinee) {
-        return Made::Full;
-    }
+    structurize_select(w, r, shape, scrutinee)?;
     take_spare(w, r);
-    Made::Done
+    Ok(())
 }

@@ -8,38 +8,32 @@ use super::answers::{answer_of, is_listed};
 use store::WORDS;
 use vectors::{TEXT, Tally, told};
 
-fn flip(block: [u8; 512], bit: usize) -> [u8; 512]
+fn flip(mut block: [u8; 512], bit: usize) -> [u8; 512]
     requires { bit < 4096 }
     ensures { result ≡ flipped block bit }
 {
-    let mut b = block;
-    let k = bit / 8;
-    b[k] = b[k] ^ (1u8 << ((bit % 8) as u8));
-    b
+    block[bit / 8] ^= 1u8 << (bit % 8);
+    block
 }
 
 // Makes the check right again.
-fn mend(block: [u8; 512]) -> [u8; 512]
+fn mend(mut block: [u8; 512]) -> [u8; 512]
     ensures { result ≡ mended block }
 {
-    let mut b = block;
-    let sum = store::check_of(&b, 0);
-    b[508] = (sum % 256) as u8;
-    b[509] = (sum / 256 % 256) as u8;
-    b[510] = (sum / 65536 % 256) as u8;
-    b[511] = (sum / 16777216) as u8;
-    b
+    let [a, b, c, d] = store::check_of(&block, 0).to_le_bytes();
+    block[508] = a;
+    block[509] = b;
+    block[510] = c;
+    block[511] = d;
+    block
 }
 
 fn change(block: [u8; 512], bit: usize, right_check: bool) -> [u8; 512]
     requires { bit < 4096 }
     ensures { result ≡ bit_changed right_check block bit }
 {
-    let b = flip(block, bit);
-    if right_check {
-        return mend(b);
-    }
-    b
+    let changed = flip(block, bit);
+    if right_check { mend(changed) } else { changed }
 }
 
 // Each bit of a block in a range.
@@ -59,12 +53,10 @@ pub fn bits(
         agree: 0,
         differ: 0,
     };
-    let mut bit = from;
-    while bit < to {
+    for bit in from..to {
         let b = change(block, bit, right_check);
-        let a = answer_of(&b, 512, words, out);
+        let a = answer_of(&b, words, out);
         t = told(t, is_listed(a, answers, bit - from));
-        bit += 1;
     }
     t
 }
@@ -82,11 +74,10 @@ pub fn lengths(
         agree: 0,
         differ: 0,
     };
-    let mut n: usize = 0;
-    while n <= bytes.len() {
-        let a = answer_of(bytes, n, words, out);
+    // Of `0..=` the check was not found to know which turn is the last.
+    for n in 0..bytes.len() + 1 {
+        let a = answer_of(&bytes[..n], words, out);
         t = told(t, is_listed(a, answers, n));
-        n += 1;
     }
     t
 }

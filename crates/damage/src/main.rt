@@ -1,5 +1,5 @@
 // Every single-bit change of a store of one block, as it is and with its check made right again, and every length of a long
-// store: how many of their answers agree with those of a list on standard input.
+// store: how many of their answers agree with those of a list on standard input. All arrays have fixed lengths: there is no heap.
 #![tactic(auto)]
 
 mod answers;
@@ -26,11 +26,11 @@ fn main(rt: HostRuntime) -> io::Result<()> {
     let mut words = [0u16; WORDS];
     let mut out = [0u8; TEXT];
     let mut list = rt.stdin();
-    read_input(&mut list, &mut block);
-    read_input(&mut list, &mut changed);
-    read_input(&mut list, &mut mended);
-    read_input(&mut list, &mut long);
-    read_input(&mut list, &mut cut);
+    let _ = read_input(&mut list, &mut block);
+    let _ = read_input(&mut list, &mut changed);
+    let _ = read_input(&mut list, &mut mended);
+    let _ = read_input(&mut list, &mut long);
+    let _ = read_input(&mut list, &mut cut);
     print(
         &rt,
         bits(0, 4096, false, block, &changed, &mut words, &mut out),

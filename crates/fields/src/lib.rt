@@ -1,5 +1,6 @@
 // An accepted record's fields, by the words that it stands in and the index behind them. Each accessor takes any words and any
-// numbers; a number that names nothing gets the definition's answer for it: 0, an empty list, Nothing, an unreachable region.
+// numbers; a number that names nothing gets the definition's answer for it: 0, an empty list, Nothing, an unreachable region. So the words
+// are no struct with an invariant, which could not hold any words; `OfRecord` says what is so of a record's.
 #![tactic(auto)]
 
 ghost use Rattle.std.specs.Prelude.{◌≡◌, ◌*◌, ◌≤◌, length, get_or};
@@ -82,10 +83,8 @@ pub fn blocks_before(w: &[u16; WORDS], r: u16) -> u32
     ensures { BlocksBefore w.now r result }
 {
     let mut sum: u32 = 0;
-    let mut i: u16 = 0;
-    while i < r {
+    for i in 0..r {
         sum += block_count(w, i) as u32;
-        i += 1;
     }
     sum
 }
@@ -102,10 +101,8 @@ pub fn instructions_before(w: &[u16; WORDS], r: u16, b: u16) -> u32
     ensures upper_bound { result ≤ 65535 * b }
 {
     let mut instructions: u32 = 0;
-    let mut q: u16 = 0;
-    while q < b {
+    for q in 0..b {
         instructions += block_length(w, r, q) as u32;
-        q += 1;
     }
     instructions
 }
@@ -134,10 +131,8 @@ pub fn instruction_count(w: &[u16; WORDS], r: u16) -> usize
 {
     let n = block_count(w, r);
     let mut sum: usize = 0;
-    let mut b: u16 = 0;
-    while b < n {
+    for b in 0..n {
         sum += block_length(w, r, b) as usize;
-        b += 1;
     }
     sum
 }
@@ -148,15 +143,12 @@ pub fn output_type(w: &[u16; WORDS], r: u16, k: u16) -> u16
 {
     let n = block_count(w, r);
     let mut left = k;
-    let mut b: u16 = 0;
-    while b < n {
+    for b in 0..n {
         let length = block_length(w, r, b);
         if left < length {
-            let x = instruction(w, r, b, left);
-            return x.ty;
+            return instruction(w, r, b, left).ty;
         }
         left -= length;
-        b += 1;
     }
     0
 }
@@ -165,32 +157,24 @@ pub fn limit(w: &[u16; WORDS], r: u16) -> u16
     ensures { OfRecord w.now (λ g. result ≡ (region g r).limit) }
 {
     if r < word_at(w, 1) {
-        return word_at(w, indexed(w, r, LIMIT) as usize);
+        word_at(w, indexed(w, r, LIMIT) as usize)
+    } else {
+        1
     }
-    1
 }
 
 pub fn terminator(w: &[u16; WORDS], r: u16) -> Terminator
     ensures { OfRecord w.now (λ g. terminator_is result (region g r).terminator ≡ (region g r).terminator) }
 {
     let p = indexed(w, r, LIMIT) as usize;
-    let kind = word_at(w, p + 1);
-    if kind == TERMINATOR_UNREACHABLE {
-        return Terminator::Unreachable;
+    match word_at(w, p + 1) {
+        TERMINATOR_UNREACHABLE => Terminator::Unreachable,
+        TERMINATOR_RETURN => Terminator::Return,
+        TERMINATOR_EXIT => Terminator::ExitInvocation(word_at(w, p + 2)),
+        TERMINATOR_BRANCH => Terminator::Branch,
+        TERMINATOR_BOOL => Terminator::SelectBool,
+        _ => Terminator::SelectNumber,
     }
-    if kind == TERMINATOR_RETURN {
-        return Terminator::Return;
-    }
-    if kind == TERMINATOR_EXIT {
-        return Terminator::ExitInvocation(word_at(w, p + 2));
-    }
-    if kind == TERMINATOR_BRANCH {
-        return Terminator::Branch;
-    }
-    if kind == TERMINATOR_BOOL {
-        return Terminator::SelectBool;
-    }
-    Terminator::SelectNumber
 }
 
 // Where the terminator's values stand; value_item gives each of them.

@@ -13,9 +13,10 @@ pub fn indexed(w: &[u16; WORDS], r: u16, i: usize) -> u16
     ensures { result ≡ words.indexed w.now r i }
 {
     if r < word_at(w, 1) {
-        return word_at(w, RECORD_END + ROW * (r as usize) + i);
+        word_at(w, RECORD_END + ROW * (r as usize) + i)
+    } else {
+        BEYOND
     }
-    BEYOND
 }
 
 // The block count stands behind the inputs.
@@ -29,9 +30,10 @@ pub fn block_place(w: &[u16; WORDS], r: u16, b: u16) -> u16
     ensures { result ≡ words.block_place w.now r b }
 {
     if b < word_at(w, blocks_place(w, r) as usize) {
-        return indexed(w, r, BLOCK_PLACES + (b as usize));
+        indexed(w, r, BLOCK_PLACES + (b as usize))
+    } else {
+        BEYOND
     }
-    BEYOND
 }
 
 // The place behind i instructions: each has four words, the last of them the count of its reads.
@@ -39,10 +41,8 @@ fn behind_instructions(w: &[u16; WORDS], first: u16, i: u16) -> u16
     ensures { result ≡ words.behind_instructions w.now i first }
 {
     let mut p = first;
-    let mut n: u16 = 0;
-    while n < i {
+    for _ in 0..i {
         p = behind_values(w, place((p as usize) + 3));
-        n += 1;
     }
     p
 }
@@ -52,9 +52,10 @@ pub fn instruction_place(w: &[u16; WORDS], r: u16, b: u16, i: u16) -> u16
 {
     let p = block_place(w, r, b);
     if i < word_at(w, p as usize) {
-        return behind_instructions(w, place((p as usize) + 1), i);
+        behind_instructions(w, place((p as usize) + 1), i)
+    } else {
+        BEYOND
     }
-    BEYOND
 }
 
 // The kind stands behind the turn limit; an opcode word stands for ExitInvocation only.
@@ -63,9 +64,10 @@ pub fn values_place(w: &[u16; WORDS], r: u16) -> u16
 {
     let p = indexed(w, r, LIMIT) as usize;
     if word_at(w, p + 1) == TERMINATOR_EXIT {
-        return place(p + 3);
+        place(p + 3)
+    } else {
+        place(p + 2)
     }
-    place(p + 2)
 }
 
 pub fn targets_place(w: &[u16; WORDS], r: u16) -> u16
@@ -79,9 +81,10 @@ fn behind_list(w: &[u16; WORDS], targets: u16, q: u16, p: u16) -> u16
     ensures { result ≡ words.behind_list w.now targets q p }
 {
     if stood_before(w, targets, q) {
-        return p;
+        p
+    } else {
+        behind_values(w, p)
     }
-    behind_values(w, p)
 }
 
 // The values passed to target t, of those that stand at `targets`: each distinct target has a list.
@@ -91,13 +94,11 @@ fn list_for(w: &[u16; WORDS], targets: u16, t: u16) -> u16
 {
     let n = word_at(w, targets as usize);
     let mut p = behind_words(w, targets);
-    let mut q: u16 = 0;
-    while q < n {
+    for q in 0..n {
         if word_item(w, targets, q) == t {
             return p;
         }
         p = behind_list(w, targets, q, p);
-        q += 1;
     }
     p
 }
@@ -107,7 +108,8 @@ pub fn passed_place(w: &[u16; WORDS], r: u16, j: u16) -> u16
 {
     let targets = targets_place(w, r);
     if j < word_at(w, targets as usize) {
-        return list_for(w, targets, word_item(w, targets, j));
+        list_for(w, targets, word_item(w, targets, j))
+    } else {
+        BEYOND
     }
-    BEYOND
 }

@@ -1,6 +1,7 @@
 // What the accessors answer with.
 
-// Kinds 0, 1, 2, 4 and 5 of document 01; Nothing is what names nothing, and what stands at an index beyond a list.
+// Kinds 0, 1, 2, 4 and 5 of document 01; Nothing is what names nothing, and what stands at an index beyond a list:
+// the definitions have it as a value too, and 0 as the type that is none.
 #[derive(Clone, Copy)]
 pub enum Value {
     Const(u16),

@@ -18,38 +18,18 @@ pub fn type_in(w: &[u16; WORDS], r: u16, before: usize, v: Value) -> u16
 {
     match v {
         Value::Const(i) => constant_type(w, i),
-        Value::Input(q, k) => {
-            if q == r {
-                return input_type(w, r, k);
-            }
-            0
-        }
-        Value::Instr(q, k) => {
-            if q == r {
-                if (k as usize) < before {
-                    return output_type(w, r, k);
-                }
-            }
-            0
-        }
+        Value::Input(q, k) if q == r => input_type(w, r, k),
+        Value::Instr(q, k) if q == r && (k as usize) < before => output_type(w, r, k),
         Value::Bool(_) => 1,
         Value::Undef(t) => t,
-        Value::Nothing => 0,
+        Value::Input(..) | Value::Instr(..) | Value::Nothing => 0,
     }
 }
 
 fn is_return(w: &[u16; WORDS], r: u16) -> bool
     ensures { OfRecord w.now (λ g. result ≡ format.is_return (region g r).terminator) }
 {
-    let t = terminator(w, r);
-    match t {
-        Terminator::Unreachable => false,
-        Terminator::Return => true,
-        Terminator::ExitInvocation(_) => false,
-        Terminator::Branch => false,
-        Terminator::SelectBool => false,
-        Terminator::SelectNumber => false,
-    }
+    matches!(terminator(w, r), Terminator::Return)
 }
 
 // How many regions stand before the first Return region.
@@ -57,14 +37,12 @@ pub fn first_return(w: &[u16; WORDS]) -> u16
     ensures { OfRecord w.now (λ g. result ≡ format.first_return g.regions) }
 {
     let n = region_count(w);
-    let mut q: u16 = 0;
-    while q < n {
+    for q in 0..n {
         if is_return(w, q) {
             return q;
         }
-        q += 1;
     }
-    q
+    n
 }
 
 // The type of value k that region q returns.

@@ -14,10 +14,7 @@ use store::layout::{BEYOND, word_at};
 pub fn place(p: usize) -> u16
     ensures { result ≡ placed p }
 {
-    if p < BEYOND as usize {
-        return p as u16;
-    }
-    BEYOND
+    p.min(BEYOND as usize) as u16
 }
 
 // Item k of a list of words: its count stands at p, its items behind it.
@@ -25,34 +22,25 @@ pub fn word_item(w: &[u16; WORDS], p: u16, k: u16) -> u16
     ensures { result ≡ word_item w.now p k }
 {
     if k < word_at(w, p as usize) {
-        return word_at(w, (p as usize) + 1 + (k as usize));
+        word_at(w, (p as usize) + 1 + (k as usize))
+    } else {
+        0
     }
-    0
 }
 
 // A value by its three words: kind, region, index.
 fn value_of(kind: u16, region: u16, index: u16) -> Value
     ensures { value_is result ≡ value_from_words kind region index }
 {
-    if kind == INPUT_KIND {
-        return Value::Input(region, index);
+    match kind {
+        INPUT_KIND => Value::Input(region, index),
+        INSTR_KIND => Value::Instr(region, index),
+        _ if region != 0 => Value::Nothing,
+        CONST_KIND => Value::Const(index),
+        BOOL_KIND if index < 2 => Value::Bool(index == 1),
+        BOOL_KIND => Value::Nothing,
+        _ => Value::Undef(index),
     }
-    if kind == INSTR_KIND {
-        return Value::Instr(region, index);
-    }
-    if region != 0 {
-        return Value::Nothing;
-    }
-    if kind == CONST_KIND {
-        return Value::Const(index);
-    }
-    if kind != BOOL_KIND {
-        return Value::Undef(index);
-    }
-    if index < 2 {
-        return Value::Bool(index == 1);
-    }
-    Value::Nothing
 }
 
 // Item k of a list of values.
@@ -61,9 +49,10 @@ pub fn value_item(w: &[u16; WORDS], p: u16, k: u16) -> Value
 {
     if k < word_at(w, p as usize) {
         let at = (p as usize) + 1 + 3 * (k as usize);
-        return value_of(word_at(w, at), word_at(w, at + 1), word_at(w, at + 2));
+        value_of(word_at(w, at), word_at(w, at + 1), word_at(w, at + 2))
+    } else {
+        Value::Nothing
     }
-    Value::Nothing
 }
 
 // The place behind a list of words.
@@ -84,10 +73,6 @@ pub fn behind_values(w: &[u16; WORDS], p: u16) -> u16
 pub fn stood_before(w: &[u16; WORDS], p: u16, q: u16) -> bool
     ensures { result ≡ again w.now p q }
 {
-    if q < word_at(w, p as usize) {
-        let from = (p as usize) + 1;
-        let x = word_at(w, from + (q as usize));
-        return stands_before(w, from, x, q);
-    }
-    false
+    let from = (p as usize) + 1;
+    q < word_at(w, p as usize) && stands_before(w, from, word_at(w, from + (q as usize)), q)
 }

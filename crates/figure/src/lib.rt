@@ -1,40 +1,27 @@
 // The figure of a nested form: what a run can cost at most. Beyond 4,294,967,295 it is 4,294,967,296, whatever it exceeds.
 #![tactic(auto)]
 
-ghost use Rattle.std.specs.Prelude.{◌≡◌, ◌≤◌, max};
+ghost use Rattle.std.specs.Prelude.{◌≤◌};
 ghost use Rattle.figure.specs.Figured as figured;
 
 use state_lists::list_before;
 use state_nodes::cells::{
-    BLOCKS, JOIN, LOOP, SELECT, blocks_region, cases_after, cell_tag, children_of_case, join_list,
-    loop_body, loop_header, select_cases,
+    CellTag, blocks_region, cases_after, cell_tag, children_of_case, join_list, loop_body,
+    loop_header, select_cases,
 };
 use state_words::handles::Handle;
 use store::WORDS;
 
 pub const TOO_LARGE: u64 = 4294967296;
 
-// A sum, or the first number beyond.
-fn held_at_limit(n: u64) -> u64
-    ensures { result ≡ figured.capped n }
-{
-    if n < TOO_LARGE {
-        return n;
-    }
-    TOO_LARGE
-}
-
-// The cost of block b of region r.
+// The cost of block b of region r. Here and below `map` with `sum` was tried: its bound and its value did not prove.
 fn block_figure(w: &[u16; WORDS], r: u16, b: u16) -> u64
     ensures { figured.BlockFigured w.now r b result }
 {
     let n = fields::block_length(w, r, b);
     let mut sum: u64 = 0;
-    let mut i: u16 = 0;
-    while i < n {
-        let x = fields::instruction(w, r, b, i);
-        sum += x.cost as u64;
-        i += 1;
+    for i in 0..n {
+        sum += u64::from(fields::instruction(w, r, b, i).cost);
     }
     sum
 }
@@ -45,24 +32,13 @@ fn blocks_figure(w: &[u16; WORDS], r: u16) -> u64
 {
     let n = fields::block_count(w, r);
     let mut sum: u64 = 0;
-    let mut b: u16 = 0;
-    while b < n {
+    for b in 0..n {
         sum += block_figure(w, r, b);
-        b += 1;
     }
     sum
 }
 
-fn larger(a: u64, b: u64) -> u64
-    ensures { result ≡ max a b }
-{
-    if a < b {
-        return b;
-    }
-    a
-}
-
-// The dearest of a list of cases.
+// The dearest of a list of cases. This loop and that of `figure` go along cells: no index is counted.
 #[cycle(cell_figure_dearest_figure)]
 fn dearest(w: &[u16; WORDS], cases: Handle) -> u64
     ensures { figured.DearestFigured w.now cases.0 result }
@@ -70,7 +46,7 @@ fn dearest(w: &[u16; WORDS], cases: Handle) -> u64
     let mut most: u64 = 0;
     let mut h = cases;
     while 0 < h.0 {
-        most = larger(most, figure(w, children_of_case(w, h)));
+        most = most.max(figure(w, children_of_case(w, h)));
         h = cases_after(w, h);
     }
     most
@@ -83,22 +59,17 @@ fn cell_figure(w: &[u16; WORDS], h: Handle) -> u64
     requires { 1 ≤ h.0 }
     ensures { figured.CellFigured w.now h.0 result }
 {
-    let tag = cell_tag(w, h);
-    if tag == BLOCKS {
-        return held_at_limit(blocks_figure(w, blocks_region(w, h)));
+    let test = u64::from(fields::test_cost(w));
+    match cell_tag(w, h) {
+        CellTag::Blocks => blocks_figure(w, blocks_region(w, h)).min(TOO_LARGE),
+        CellTag::Join => figure(w, join_list(w, h)),
+        CellTag::Select => (test + dearest(w, select_cases(w, h))).min(TOO_LARGE),
+        CellTag::Loop => {
+            let limit = u64::from(fields::limit(w, loop_header(w, h)));
+            (limit * (figure(w, loop_body(w, h)) + test)).min(TOO_LARGE)
+        }
+        _ => 0,
     }
-    if tag == JOIN {
-        return figure(w, join_list(w, h));
-    }
-    let test = fields::test_cost(w) as u64;
-    if tag == SELECT {
-        return held_at_limit(test + dearest(w, select_cases(w, h)));
-    }
-    if tag == LOOP {
-        let limit = fields::limit(w, loop_header(w, h)) as u64;
-        return held_at_limit(limit * (figure(w, loop_body(w, h)) + test));
-    }
-    0
 }
 
 // A list of children their sum.
@@ -109,7 +80,7 @@ pub fn figure(w: &[u16; WORDS], list: Handle) -> u64
     let mut sum: u64 = 0;
     let mut h = list;
     while 0 < h.0 {
-        sum = held_at_limit(sum + cell_figure(w, h));
+        sum = (sum + cell_figure(w, h)).min(TOO_LARGE);
         h = list_before(w, h);
     }
     sum

@@ -11,14 +11,12 @@ fn main(rt: HostRuntime) {
     let mut words = [0u16; WORDS];
     let mut out = [0u32; 16384];
     let mut text = [0u8; 262144];
-    let input = read_input(&mut rt.stdin(), &mut bytes);
-    if input.failed {
+    let Ok(n) = read_input(&mut rt.stdin(), &mut bytes) else {
         let _ = rt
             .stderr()
             .write_all(b"nest: standard input cannot be read\n");
         return;
-    }
-    let n = input.size;
+    };
     let written = text_nest::print(&bytes[..n], &mut words, &mut out, &mut text);
     let size = text_size(written, &text);
     if rt.stdout().write_all(&text[..size]).is_err() {

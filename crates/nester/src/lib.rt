@@ -1,77 +1,60 @@
 // The public routine: from a store's bytes to the sheet in lent words, or a refusal.
 #![tactic(auto)]
 
-ghost use Rattle.std.specs.Prelude.{◌≡◌};
 ghost use Rattle.cfg_claims.specs.Claims.{Stood};
 ghost use Rattle.format.specs.Valid.{Valid};
 ghost use Rattle.record.specs.Stands.{OfRecord};
 ghost use Rattle.nester.specs.Answers as answers;
 ghost use Rattle.nester.specs.Nests.{Nests};
 
-use accept::Accepted;
-use cfg::func::{Nested, structurize_func};
+use cfg::func::{Outcome, structurize_func};
 use figure::{TOO_LARGE, figure};
-use sheet::whole::{CLOSED, LEFTOVER, Sheet, UNTOUCHED, WHOLE, write_sheet};
+use sheet::whole::{CLOSED, LEFTOVER, UNTOUCHED, WHOLE, write_sheet};
 use state_regions::regions::children;
-use store::refusals::{FIGURE_TOO_LARGE, TOO_FEW_WORDS, number, word};
-use store::{Refusal, WORDS, tells_length};
-
-// How many words the sheet has, or a refusal's number and its word.
-#[derive(Clone, Copy)]
-pub enum SheetAnswer {
-    Sheet(u32),
-    Refused(u16, u16),
-}
+use store::{Refusal, WORDS};
 
 // Refused where the lent words are too few.
-fn write_or_refuse(w: &[u16; WORDS], out: &mut [u32], outcome: u16, figure: u32) -> SheetAnswer
+fn write_or_refuse(
+    w: &[u16; WORDS],
+    out: &mut [u32],
+    outcome: u16,
+    figure: u32,
+) -> Result<u32, Refusal>
     ensures { answers.WritesAnswer w.now outcome figure out.old out.new result }
 {
-    match write_sheet(w, out, outcome, figure) {
-        Sheet::Words(n) => SheetAnswer::Sheet(n),
-        Sheet::TooFew => SheetAnswer::Refused(TOO_FEW_WORDS, 0),
-    }
+    let n = write_sheet(w, out, outcome, figure)?;
+    Ok(n)
 }
 
 // A whole or closed form, refused where its figure exceeds 4,294,967,295.
-fn write_with_figure(w: &[u16; WORDS], out: &mut [u32], outcome: u16) -> SheetAnswer
+fn write_with_figure(w: &[u16; WORDS], out: &mut [u32], outcome: u16) -> Result<u32, Refusal>
     ensures { answers.FormsAnswer w.now outcome out.old out.new result }
 {
     let cost = figure(w, children(w, fields::entry(w)));
     if cost == TOO_LARGE {
-        return SheetAnswer::Refused(FIGURE_TOO_LARGE, 0);
+        return Err(Refusal::FigureTooLarge);
     }
     write_or_refuse(w, out, outcome, cost as u32)
 }
 
-// The refusal as a user reads it.
-fn refused(why: Refusal) -> SheetAnswer
-    ensures { result ≡ answers.refused_with why }
-{
-    SheetAnswer::Refused(number(why), word(why))
-}
-
 // From an accepted record that stands in the words.
-fn nest_record(w: &mut [u16; WORDS], out: &mut [u32]) -> SheetAnswer
+fn nest_record(w: &mut [u16; WORDS], out: &mut [u32]) -> Result<u32, Refusal>
     requires { Stood w.old }
     ensures { OfRecord w.old (λ g. Valid g
         → answers.NestsRecord g w.old w.new out.old out.new result) }
 {
-    match structurize_func(w) {
-        Nested::Untouched => write_or_refuse(w, out, UNTOUCHED, 0),
-        Nested::Whole => write_with_figure(w, out, WHOLE),
-        Nested::Closed => write_with_figure(w, out, CLOSED),
-        Nested::Leftover => write_or_refuse(w, out, LEFTOVER, 0),
-        Nested::Refused(why) => refused(why),
+    match structurize_func(w)? {
+        Outcome::Untouched => write_or_refuse(w, out, UNTOUCHED, 0),
+        Outcome::Whole => write_with_figure(w, out, WHOLE),
+        Outcome::Closed => write_with_figure(w, out, CLOSED),
+        Outcome::Leftover => write_or_refuse(w, out, LEFTOVER, 0),
     }
 }
 
-pub fn nest(bytes: &[u8], w: &mut [u16; WORDS], out: &mut [u32]) -> SheetAnswer
+// How many words the sheet has, which stand in front of `out` then.
+pub fn nest(bytes: &[u8], w: &mut [u16; WORDS], out: &mut [u32]) -> Result<u32, Refusal>
     ensures { Nests bytes.now w.old w.new out.old out.new result }
 {
-    tells_length(w);
-    match accept::accept(bytes, w) {
-        Accepted::Record => nest_record(w, out),
-        Accepted::Refused(number, word) => SheetAnswer::Refused(number, word),
-    }
+    accept::accept(bytes, w)?;
+    nest_record(w, out)
 }

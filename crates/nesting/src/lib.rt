@@ -1,4 +1,5 @@
-// The numbers of a sheet's words, 32 bits each (document 01, "The printed sheet"); nothing is computed here.
+// The numbers of a sheet's words, 32 bits each (document 01, "The printed sheet"); nothing is computed here. They stay numbers:
+// interface/constants gives them to callers in C.
 #![tactic(auto)]
 
 // What leads a line.

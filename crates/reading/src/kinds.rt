@@ -1,4 +1,5 @@
-// The kinds of values and of terminators in a record's words (document 01, "store and record").
+// The kinds of values and of terminators in a record's words (document 01, "store and record"). Numbers: reading only tests them, and its
+// definitions (format's Read) take the number. What comes after has enums, Value and Terminator of fields.
 pub const CONST_KIND: u16 = 0;
 
 pub const INPUT_KIND: u16 = 1;

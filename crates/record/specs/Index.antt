@@ -1,12 +1,12 @@
 -- The index of a record, and what reading its regions leaves there.
-use Rattle.std.specs.Prelude.{◌≡◌, List, ℕ, zero, suc, ◌+◌, ◌≤◌, ◌<◌, length, get_or, take}
+use Rattle.std.specs.Prelude.{◌≡◌, List, ℕ, zero, suc, ◌+◌, ◌≤◌, ◌<◌, length, get_or, take, Result}
 use Rattle.meaning.specs.Graph.{Region}
 use Rattle.format.specs.Store.{accepted}
 use Rattle.format.specs.Read.{read_region, regions_from}
 use Rattle.format.specs.Places.{after, blocks_of_region, block_of_region, limit_of_region, exits_of_region}
 use Rattle.store.specs.Layout.{start_word, limit_word, exits_word, blocks_word, index_at}
 use Rattle.store.specs.Loaded.{answered}
-use Rattle.store.specs.declared.Verdict.{Verdict}
+use Rattle.store.specs.declared.refusals.Refusal.{Refusal}
 use Rattle.record.specs.Outcome.{forget, RestKept}
 use Rattle.record.specs.declared.regions.RegionPlaces.{RegionPlaces}
 
@@ -33,7 +33,7 @@ pub record IndexedFrom (ws : List ℕ) (from : ℕ) (w : List ℕ) (r : ℕ) : T
       → get_or w (index_at r + blocks_word + b) 0 ≡ block_of_region ws (after r read_region ws from) b
 
 -- n regions from a place on.
-pub record RegionsOutcome (n count from : ℕ) (old new : List ℕ) (a : Verdict) : Type 0 where
+pub record RegionsOutcome (n count from : ℕ) (old new : List ℕ) (a : Result Unit Refusal) : Type 0 where
   pub answer : answered a ≡ forget (regions_from n 0 (take count old) from)
   pub index : (rs : List Region) → regions_from n 0 (take count old) from ≡ accepted rs → (r : ℕ) → r < n
       → IndexedFrom (take count old) from new r

@@ -1,12 +1,12 @@
 -- What reading a record answers, and what the lent words hold then.
-use Rattle.std.specs.Prelude.{◌≡◌, List, ℕ, length, get_or, take, drop, leb}
+use Rattle.std.specs.Prelude.{◌≡◌, List, ℕ, length, get_or, take, drop, leb, Result}
 use Rattle.meaning.specs.Graph.{Graph}
 use Rattle.format.specs.Store.{Answer, accepted, refused}
 use Rattle.format.specs.Read.{read_record}
 use Rattle.format.specs.Refusals.{wrong_word_count}
 use Rattle.store.specs.Layout.{record_end, index_end}
 use Rattle.store.specs.Loaded.{answered}
-use Rattle.store.specs.declared.Verdict.{Verdict}
+use Rattle.store.specs.declared.refusals.Refusal.{Refusal}
 use Rattle.record.specs.Stands.{words_of_record, Stands}
 use Rattle.meaning.specs.Lists.{pick}
 
@@ -26,7 +26,7 @@ abbrev pub record_in : List ℕ → Answer Graph
 record_in w = pick (leb (get_or w 0 0) record_end) (read_record (words_of_record w)) (refused wrong_word_count 0)
 
 -- `old` are the lent words as they are read, `new` as they are handed back.
-pub record ReadOutcome (old new : List ℕ) (a : Verdict) : Type 0 where
+pub record ReadOutcome (old new : List ℕ) (a : Result Unit Refusal) : Type 0 where
   pub answer : answered a ≡ forget (record_in old)
   pub stands : (g : Graph) → record_in old ≡ accepted g → Stands new g
   pub kept : RestKept old new

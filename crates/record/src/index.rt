@@ -4,18 +4,16 @@ ghost use Rattle.store.specs.Layout.{row_words, index_at, index_end};
 ghost use Rattle.record.specs.Index.{Row, row_of};
 
 use crate::regions::RegionPlaces;
+use store::WORDS;
 use store::layout::{BLOCK_PLACES, EXITS, LIMIT, RECORD_END, ROW, START};
-use store::{WORDS, tells_length};
 
+// Not by `copy_from_slice`, which compares addresses: the boards' code is made from a module in which no address is a number.
 fn store_blocks(w: &mut [u16; WORDS], at: usize, places: [u16; 8])
     requires { at + 8 ≤ index_end }
     ensures { Row w.old w.new at 8 (λ k. get_or places k 0) }
 {
-    tells_length(w);
-    let mut b: usize = 0;
-    while b < 8 {
+    for b in 0..8 {
         w[at + b] = places[b];
-        b += 1;
     }
 }
 
@@ -24,13 +22,9 @@ pub fn put_places(w: &mut [u16; WORDS], r: u16, start: u16, x: RegionPlaces)
     requires { r < 32 }
     ensures { Row w.old w.new (index_at r) row_words (row_of start x) }
 {
-    tells_length(w);
     let at = RECORD_END + ROW * r as usize;
-    let limit = x.limit;
-    let exits = x.exits;
-    let places = x.blocks;
     w[at + START] = start;
-    w[at + LIMIT] = limit;
-    w[at + EXITS] = exits;
-    store_blocks(w, at + BLOCK_PLACES, places);
+    w[at + LIMIT] = x.limit;
+    w[at + EXITS] = x.exits;
+    store_blocks(w, at + BLOCK_PLACES, x.blocks);
 }

@@ -7,69 +7,54 @@ pub mod regions;
 ghost use Rattle.std.specs.Prelude.{◌≡◌, ◌≤◌};
 ghost use Rattle.format.specs.Store.{refused};
 ghost use Rattle.format.specs.Read.{word_for};
-ghost use Rattle.format.specs.Refusals.{wrong_word_count, out_of_range};
-ghost use Rattle.meaning.specs.Lists.{Within};
 ghost use Rattle.store.specs.Layout.{record_end};
-ghost use Rattle.store.specs.Loaded.{answered};
+ghost use Rattle.store.specs.Refusals.{refused_as};
+ghost use Rattle.reading.specs.Answers.{fault_number};
 ghost use Rattle.record.specs.Outcome.{ReadOutcome};
 ghost use Rattle.record.specs.Index.{RegionsOutcome};
 
 use crate::index::put_places;
 use crate::regions::{read_head, read_region};
-use reading::words::{Cursor, Item, Step};
+use reading::words::{Cursor, Fault};
 use store::layout::{RECORD_END, word_at};
-use store::refusals::OUT_OF_RANGE;
-use store::{Refusal, Verdict, WORDS, tells_length};
+use store::{Refusal, WORDS};
 
-// The refusal of a number that reading answers, in region r.
-fn refusal(n: u16, r: u16) -> Verdict
-    requires { Within wrong_word_count out_of_range n }
-    ensures { answered result ≡ refused n (word_for n r) }
+// The refusal of what reading finds wrong in region r.
+fn refusal(why: Fault, r: u16) -> Refusal
+    ensures { refused_as {A = Unit {0}} result ≡ refused (fault_number why) (word_for (fault_number why) r) }
 {
-    if n == OUT_OF_RANGE {
-        return Verdict::Refused(Refusal::OutOfRange(r));
+    match why {
+        Fault::OutOfRange => Refusal::OutOfRange(r),
+        Fault::WrongWordCount => Refusal::WrongWordCount,
     }
-    Verdict::Refused(Refusal::WrongWordCount)
 }
 
 // n regions from a cursor on; no words may stay over.
-fn read_regions(w: &mut [u16; WORDS], from: Cursor, n: u16) -> Verdict
+fn read_regions(w: &mut [u16; WORDS], from: Cursor, n: u16) -> Result<(), Refusal>
     requires { (from.end ≤ record_end) × (n ≤ 32) }
     ensures { RegionsOutcome n from.end from.at w.old w.new result }
 {
-    tells_length(w);
-    let mut r: u16 = 0;
     let mut c = from;
-    while r < n {
-        let x = read_region(w, c);
-        let step = x.step;
-        match step {
-            Step::Bad(m) => return refusal(m, r),
-            Step::At(e) => {
-                put_places(w, r, c.at as u16, x);
-                c = e;
-                r += 1;
-            }
-        }
+    for r in 0..n {
+        let x = read_region(w, c).map_err(|why| refusal(why, r))?;
+        put_places(w, r, c.at as u16, x);
+        c = x.behind;
     }
     if c.at == c.end {
-        return Verdict::Right;
+        return Ok(());
     }
-    Verdict::Refused(Refusal::WrongWordCount)
+    Err(Refusal::WrongWordCount)
 }
 
 // The record in front of the words, W of them, which word 0 says; the index is made on the way.
-pub fn read_record(w: &mut [u16; WORDS]) -> Verdict
+pub fn read_record(w: &mut [u16; WORDS]) -> Result<(), Refusal>
     ensures { ReadOutcome w.old w.new result }
 {
-    tells_length(w);
-    let count = word_at(w, 0) as usize;
+    let count = usize::from(word_at(w, 0));
     if RECORD_END < count {
-        return Verdict::Refused(Refusal::WrongWordCount);
+        return Err(Refusal::WrongWordCount);
     }
     let first = Cursor { at: 1, end: count };
-    match read_head(w, first) {
-        Item::Bad(m) => refusal(m, 0),
-        Item::Word(n, c) => read_regions(w, c, n),
-    }
+    let (n, c) = read_head(w, first).map_err(|why| refusal(why, 0))?;
+    read_regions(w, c, n)
 }

@@ -1,148 +1,89 @@
-// Regions and the head of a record.
-ghost use Rattle.std.specs.Prelude.{◌≡◌, ◌≤◌};
-ghost use Rattle.reading.specs.Answers.{item_at, step_at};
+// Regions and the head of a record. A region has at most eight blocks, and there is no heap.
+ghost use Rattle.std.specs.Prelude.{◌≤◌};
+ghost use Rattle.reading.specs.Answers.{ReadsWord, Reads};
 ghost use Rattle.record.specs.Answers.{BlocksRead, CountedBlocks, EndingRead, RegionPlacesRead};
 ghost use Rattle.record.specs.Readings.{after_count, head_count};
 
 use reading::terminators::terminator;
 use reading::values::block;
-use reading::words::{Cursor, Item, Step, counted_types, counted_words, within, word};
-use store::{WORDS, tells_length};
+use reading::words::{Cursor, Fault, counted_types, counted_words, within, word};
+use store::WORDS;
 
-// The cursor behind some blocks, and the place of each.
+// The place of each of some blocks, and the cursor behind them.
 #[derive(Clone, Copy)]
 pub struct BlockPlaces {
-    pub step: Step,
     pub places: [u16; 8],
+    pub behind: Cursor,
 }
 
-// The cursor behind a region, and the places within it that the index keeps.
+// The places within a region that the index keeps, and the cursor behind it.
 #[derive(Clone, Copy)]
 pub struct RegionPlaces {
-    pub step: Step,
     pub limit: u16,
     pub exits: u16,
     pub blocks: [u16; 8],
+    pub behind: Cursor,
 }
 
-// n blocks
-fn blocks(w: &[u16; WORDS], from: Cursor, n: u16) -> BlockPlaces
+// n blocks. A loop of its own, since `many` keeps only the cursor, and here the place of each block is kept.
+fn blocks(w: &[u16; WORDS], from: Cursor, n: u16) -> Result<BlockPlaces, Fault>
     requires { n ≤ 8 }
     ensures { BlocksRead n w.now from result }
 {
-    tells_length(w);
     let mut places = [0u16; 8];
-    let mut i: u16 = 0;
     let mut c = from;
-    while i < n {
-        match block(w, c) {
-            Step::Bad(m) => {
-                return BlockPlaces {
-                    step: Step::Bad(m),
-                    places,
-                };
-            }
-            Step::At(e) => {
-                places[i as usize] = c.at as u16;
-                c = e;
-                i += 1;
-            }
-        }
+    for i in 0..n {
+        let e = block(w, c)?;
+        places[i as usize] = c.at as u16;
+        c = e;
     }
-    BlockPlaces {
-        step: Step::At(c),
-        places,
-    }
+    Ok(BlockPlaces { places, behind: c })
 }
 
-fn counted_blocks(w: &[u16; WORDS], c: Cursor) -> BlockPlaces
+fn counted_blocks(w: &[u16; WORDS], c: Cursor) -> Result<BlockPlaces, Fault>
     ensures { CountedBlocks w.now c result }
 {
-    match within(w, c, 0, 8) {
-        Item::Bad(m) => {
-            let places = [0u16; 8];
-            BlockPlaces {
-                step: Step::Bad(m),
-                places,
-            }
-        }
-        Item::Word(n, e) => blocks(w, e, n),
-    }
-}
-
-fn no_region(m: u16) -> RegionPlaces
-    ensures { result.step ≡ Step.Bad m }
-{
-    let blocks = [0u16; 8];
-    RegionPlaces {
-        step: Step::Bad(m),
-        limit: 0,
-        exits: 0,
-        blocks,
-    }
+    let (n, e) = within(w, c, 0, 8)?;
+    blocks(w, e, n)
 }
 
 // From the turn limit of a region on; its blocks stand at the places.
-fn read_ending(w: &[u16; WORDS], c: Cursor, places: [u16; 8]) -> RegionPlaces
+fn read_ending(w: &[u16; WORDS], c: Cursor, places: [u16; 8]) -> Result<RegionPlaces, Fault>
     ensures { EndingRead w.now c places result }
 {
-    tells_length(w);
-    match within(w, c, 1, 65535) {
-        Item::Bad(m) => no_region(m),
-        Item::Word(_, p) => match terminator(w, p) {
-            Step::Bad(m) => no_region(m),
-            Step::At(q) => match counted_words(w, q, 0, 32) {
-                Step::Bad(m) => no_region(m),
-                Step::At(e) => RegionPlaces {
-                    step: Step::At(e),
-                    limit: c.at as u16,
-                    exits: q.at as u16,
-                    blocks: places,
-                },
-            },
-        },
-    }
+    let (_, p) = within(w, c, 1, 65535)?;
+    let q = terminator(w, p)?;
+    let e = counted_words(w, q, 0, 32)?;
+    Ok(RegionPlaces {
+        limit: c.at as u16,
+        exits: q.at as u16,
+        blocks: places,
+        behind: e,
+    })
 }
 
-pub fn read_region(w: &[u16; WORDS], c: Cursor) -> RegionPlaces
+pub fn read_region(w: &[u16; WORDS], c: Cursor) -> Result<RegionPlaces, Fault>
     ensures { RegionPlacesRead w.now c result }
 {
-    match counted_types(w, c, 4) {
-        Step::Bad(m) => no_region(m),
-        Step::At(p) => {
-            let b = counted_blocks(w, p);
-            let step = b.step;
-            let places = b.places;
-            match step {
-                Step::Bad(m) => no_region(m),
-                Step::At(q) => read_ending(w, q, places),
-            }
-        }
-    }
+    let p = counted_types(w, c, 4)?;
+    let b = counted_blocks(w, p)?;
+    read_ending(w, b.behind, b.places)
 }
 
 // Entry, test cost, and the types of the constants.
-fn after_count(w: &[u16; WORDS], c: Cursor) -> Step
-    ensures { result ≡ step_at after_count w.now c }
+fn after_count(w: &[u16; WORDS], c: Cursor) -> Result<Cursor, Fault>
+    ensures { Reads after_count w.now c result }
 {
-    match word(w, c) {
-        Item::Bad(m) => Step::Bad(m),
-        Item::Word(_, p) => match word(w, p) {
-            Item::Bad(m) => Step::Bad(m),
-            Item::Word(_, e) => counted_types(w, e, 64),
-        },
-    }
+    let (_, p) = word(w, c)?;
+    let (_, e) = word(w, p)?;
+    counted_types(w, e, 64)
 }
 
 // The region count and the cursor at the first region.
-pub fn read_head(w: &[u16; WORDS], c: Cursor) -> Item
-    ensures { result ≡ item_at head_count w.now c }
+pub fn read_head(w: &[u16; WORDS], c: Cursor) -> Result<(u16, Cursor), Fault>
+    ensures { ReadsWord head_count w.now c result }
 {
-    match within(w, c, 1, 32) {
-        Item::Bad(m) => Item::Bad(m),
-        Item::Word(n, p) => match after_count(w, p) {
-            Step::Bad(m) => Item::Bad(m),
-            Step::At(e) => Item::Word(n, e),
-        },
-    }
+    let (n, p) = within(w, c, 1, 32)?;
+    let e = after_count(w, p)?;
+    Ok((n, e))
 }

@@ -11,129 +11,109 @@ ghost use Rattle.fields.specs.Shape.{value_is};
 ghost use Rattle.references.specs.Checks.{typed, first_right};
 
 use fields::{Terminator, Value};
-use store::{Refusal, Verdict, WORDS};
+use store::{Refusal, WORDS};
 
-fn named_right(w: &[u16; WORDS], r: u16, before: usize, v: Value) -> Verdict
+fn named_right(w: &[u16; WORDS], r: u16, before: usize, v: Value) -> Result<(), Refusal>
     ensures { OfRecord w.now (λ g. answered result ≡ format.named_right g r before (value_is v)) }
 {
     if fields::type_in(w, r, before, v) == 0 {
-        return Verdict::Refused(Refusal::WrongReference(r));
+        Err(Refusal::WrongReference(r))
+    } else {
+        Ok(())
     }
-    Verdict::Right
 }
 
 // A value behind all instructions of region r: named, and of type t.
-fn named_of_type(w: &[u16; WORDS], r: u16, t: u16, v: Value) -> Verdict
+fn named_of_type(w: &[u16; WORDS], r: u16, t: u16, v: Value) -> Result<(), Refusal>
     ensures { OfRecord w.now (λ g. answered result ≡ typed g r t (value_is v)) }
 {
     let found = fields::type_in(w, r, fields::instruction_count(w, r), v);
     if found == 0 {
-        return Verdict::Refused(Refusal::WrongReference(r));
+        return Err(Refusal::WrongReference(r));
     }
     if found != t {
-        return Verdict::Refused(Refusal::WrongType(r));
+        return Err(Refusal::WrongType(r));
     }
-    Verdict::Right
+    Ok(())
 }
 
 // Each read of instruction i of block b, which stands behind `before` instructions of the region.
-fn instruction_reads_right(w: &[u16; WORDS], r: u16, b: u16, i: u16, before: usize) -> Verdict
+fn instruction_reads_right(
+    w: &[u16; WORDS],
+    r: u16,
+    b: u16,
+    i: u16,
+    before: usize,
+) -> Result<(), Refusal>
     ensures { OfRecord w.now (λ g.
         answered result ≡ format.first_refusal (format.named_right g r before) (instr_of g r b i).reads) }
 {
     let x = fields::instruction(w, r, b, i);
     let n = x.reads;
-    let mut k: u16 = 0;
-    while k < n {
-        let c = named_right(w, r, before, fields::read(w, r, b, i, k));
-        if let Verdict::Refused(why) = c {
-            return Verdict::Refused(why);
-        }
-        k += 1;
+    for k in 0..n {
+        named_right(w, r, before, fields::read(w, r, b, i, k))?;
     }
-    Verdict::Right
+    Ok(())
 }
 
-fn block_reads_right(w: &[u16; WORDS], r: u16, b: u16, before: usize) -> Verdict
+fn block_reads_right(w: &[u16; WORDS], r: u16, b: u16, before: usize) -> Result<(), Refusal>
     requires { before ≤ 4294836225 }
     ensures { OfRecord w.now (λ g. answered result ≡ format.reads_right g r before (block_of g r b)) }
 {
     let n = fields::block_length(w, r, b);
-    let mut i: u16 = 0;
-    while i < n {
-        let c = instruction_reads_right(w, r, b, i, before + (i as usize));
-        if let Verdict::Refused(why) = c {
-            return Verdict::Refused(why);
-        }
-        i += 1;
+    for i in 0..n {
+        instruction_reads_right(w, r, b, i, before + (i as usize))?;
     }
-    Verdict::Right
+    Ok(())
 }
 
-fn reads_right(w: &[u16; WORDS], r: u16) -> Verdict
+fn reads_right(w: &[u16; WORDS], r: u16) -> Result<(), Refusal>
     ensures { OfRecord w.now (λ g. answered result ≡ format.reads_right g r 0 (format.instructions (region g r).blocks)) }
 {
     let n = fields::block_count(w, r);
     let mut before: usize = 0;
-    let mut b: u16 = 0;
-    while b < n {
-        let c = block_reads_right(w, r, b, before);
-        if let Verdict::Refused(why) = c {
-            return Verdict::Refused(why);
-        }
+    for b in 0..n {
+        block_reads_right(w, r, b, before)?;
         before += fields::block_length(w, r, b) as usize;
-        b += 1;
     }
-    Verdict::Right
+    Ok(())
 }
 
 // What region r returns has the types of what the first Return region returns.
-fn returned_right(w: &[u16; WORDS], r: u16) -> Verdict
+fn returned_right(w: &[u16; WORDS], r: u16) -> Result<(), Refusal>
     ensures { OfRecord w.now (λ g. answered result ≡ format.passed_right g r (format.return_types g) (end_values g r)) }
 {
     let q = fields::first_return(w);
     let n = fields::value_count(w, r);
     if n != fields::value_count(w, q) {
-        return Verdict::Refused(Refusal::WrongType(r));
+        return Err(Refusal::WrongType(r));
     }
-    let mut k: u16 = 0;
-    while k < n {
-        let c = named_of_type(w, r, fields::return_type(w, q, k), fields::value(w, r, k));
-        if let Verdict::Refused(why) = c {
-            return Verdict::Refused(why);
-        }
-        k += 1;
+    for k in 0..n {
+        named_of_type(w, r, fields::return_type(w, q, k), fields::value(w, r, k))?;
     }
-    Verdict::Right
+    Ok(())
 }
 
 // Each value that ExitInvocation names.
-fn exit_values_right(w: &[u16; WORDS], r: u16) -> Verdict
+fn exit_values_right(w: &[u16; WORDS], r: u16) -> Result<(), Refusal>
     ensures { OfRecord w.now (λ g.
         answered result ≡ format.first_refusal (format.named_right g r (format.behind_all g r)) (end_values g r)) }
 {
     let before = fields::instruction_count(w, r);
     let n = fields::value_count(w, r);
-    let mut k: u16 = 0;
-    while k < n {
-        let c = named_right(w, r, before, fields::value(w, r, k));
-        if let Verdict::Refused(why) = c {
-            return Verdict::Refused(why);
-        }
-        k += 1;
+    for k in 0..n {
+        named_right(w, r, before, fields::value(w, r, k))?;
     }
-    Verdict::Right
+    Ok(())
 }
 
-fn values_right(w: &[u16; WORDS], r: u16) -> Verdict
+fn values_right(w: &[u16; WORDS], r: u16) -> Result<(), Refusal>
     ensures { OfRecord w.now (λ g. answered result ≡ format.values_right g r (region g r).terminator) }
 {
-    let t = fields::terminator(w, r);
-    match t {
-        Terminator::Unreachable => Verdict::Right,
+    match fields::terminator(w, r) {
+        Terminator::Unreachable | Terminator::Branch => Ok(()),
         Terminator::Return => returned_right(w, r),
         Terminator::ExitInvocation(_) => exit_values_right(w, r),
-        Terminator::Branch => Verdict::Right,
         Terminator::SelectBool => named_of_type(w, r, 1, fields::value(w, r, 0)),
         Terminator::SelectNumber => named_right(
             w,
@@ -144,130 +124,100 @@ fn values_right(w: &[u16; WORDS], r: u16) -> Verdict
     }
 }
 
-fn targets_right(w: &[u16; WORDS], r: u16) -> Verdict
+fn targets_right(w: &[u16; WORDS], r: u16) -> Result<(), Refusal>
     ensures { OfRecord w.now (λ g.
         answered result ≡ format.first_refusal (format.target_right g r) (edges_of (region g r).terminator)) }
 {
     let count = fields::region_count(w);
     let n = fields::target_count(w, r);
-    let mut j: u16 = 0;
-    while j < n {
+    for j in 0..n {
         if count <= fields::target(w, r, j) {
-            return Verdict::Refused(Refusal::WrongReference(r));
+            return Err(Refusal::WrongReference(r));
         }
-        j += 1;
     }
-    Verdict::Right
+    Ok(())
 }
 
 // Values for the inputs of the target at place j: as many, then each named, and of its type.
-fn passed_right(w: &[u16; WORDS], r: u16, j: u16) -> Verdict
+fn passed_right(w: &[u16; WORDS], r: u16, j: u16) -> Result<(), Refusal>
     ensures { OfRecord w.now (λ g. answered result ≡ format.edge_right g r (edge_of g r j)) }
 {
     let t = fields::target(w, r, j);
     let n = fields::passed_count(w, r, j);
     if n != fields::input_count(w, t) {
-        return Verdict::Refused(Refusal::WrongType(r));
+        return Err(Refusal::WrongType(r));
     }
-    let mut k: u16 = 0;
-    while k < n {
-        let c = named_of_type(
+    for k in 0..n {
+        named_of_type(
             w,
             r,
             fields::input_type(w, t, k),
             fields::passed(w, r, j, k),
-        );
-        if let Verdict::Refused(why) = c {
-            return Verdict::Refused(why);
-        }
-        k += 1;
+        )?;
     }
-    Verdict::Right
+    Ok(())
 }
 
 // The values for the target at place j, where it stands for the first time.
-fn edge_right(w: &[u16; WORDS], r: u16, j: u16) -> Verdict
+fn edge_right(w: &[u16; WORDS], r: u16, j: u16) -> Result<(), Refusal>
     ensures { OfRecord w.now (λ g. answered result ≡ first_right g r (edges_of (region g r).terminator) j) }
 {
     if fields::target_again(w, r, j) {
-        return Verdict::Right;
+        Ok(())
+    } else {
+        passed_right(w, r, j)
     }
-    passed_right(w, r, j)
 }
 
 // The values passed to each distinct target.
-fn edges_right(w: &[u16; WORDS], r: u16) -> Verdict
+fn edges_right(w: &[u16; WORDS], r: u16) -> Result<(), Refusal>
     ensures { OfRecord w.now (λ g.
         answered result ≡ format.first_refusal (format.edge_right g r) (format.first_edges [] (edges_of (region g r).terminator))) }
 {
     let n = fields::target_count(w, r);
-    let mut j: u16 = 0;
-    while j < n {
-        let c = edge_right(w, r, j);
-        if let Verdict::Refused(why) = c {
-            return Verdict::Refused(why);
-        }
-        j += 1;
+    for j in 0..n {
+        edge_right(w, r, j)?;
     }
-    Verdict::Right
+    Ok(())
 }
 
 // Each exit is a region, and none stands twice.
-fn exits_right(w: &[u16; WORDS], r: u16) -> Verdict
+fn exits_right(w: &[u16; WORDS], r: u16) -> Result<(), Refusal>
     ensures { OfRecord w.now (λ g. answered result ≡ format.exits_right g r [] (region g r).exits) }
 {
     let count = fields::region_count(w);
     let n = fields::exit_count(w, r);
-    let mut k: u16 = 0;
-    while k < n {
+    for k in 0..n {
         if count <= fields::exit_target(w, r, k) {
-            return Verdict::Refused(Refusal::WrongReference(r));
+            return Err(Refusal::WrongReference(r));
         }
         if fields::exit_again(w, r, k) {
-            return Verdict::Refused(Refusal::ExitNamedTwice(r));
+            return Err(Refusal::ExitNamedTwice(r));
         }
-        k += 1;
     }
-    Verdict::Right
+    Ok(())
 }
 
-fn region_right(w: &[u16; WORDS], r: u16) -> Verdict
+fn region_right(w: &[u16; WORDS], r: u16) -> Result<(), Refusal>
     ensures { OfRecord w.now (λ g. answered result ≡ format.region_right g r (region g r)) }
 {
-    let reads = reads_right(w, r);
-    if let Verdict::Refused(why) = reads {
-        return Verdict::Refused(why);
-    }
-    let values = values_right(w, r);
-    if let Verdict::Refused(why) = values {
-        return Verdict::Refused(why);
-    }
-    let targets = targets_right(w, r);
-    if let Verdict::Refused(why) = targets {
-        return Verdict::Refused(why);
-    }
-    let edges = edges_right(w, r);
-    if let Verdict::Refused(why) = edges {
-        return Verdict::Refused(why);
-    }
+    reads_right(w, r)?;
+    values_right(w, r)?;
+    targets_right(w, r)?;
+    edges_right(w, r)?;
     exits_right(w, r)
 }
 
 // The entry, then each region, also where it is out of reach.
-pub fn references(w: &[u16; WORDS]) -> Verdict
+pub fn references(w: &[u16; WORDS]) -> Result<(), Refusal>
     ensures { OfRecord w.now (λ g. answered result ≡ format.references g) }
 {
     let n = fields::region_count(w);
     if n <= fields::entry(w) {
-        return Verdict::Refused(Refusal::WrongReference(0));
+        return Err(Refusal::WrongReference(0));
     }
-    let mut r: u16 = 0;
-    while r < n {
-        let c = region_right(w, r);
-        if let Verdict::Refused(why) = c {
-            return Verdict::Refused(why);
-        }
-        r += 1;
+    for r in 0..n {
+        region_right(w, r)?;
     }
-    Verdict::Right
+    Ok(())
 }

@@ -1,7 +1,8 @@
-// Replays a list of stores with their answers, read from standard input, and prints how many agree.
+// Replays a list of stores with their answers, read from standard input, and prints how many agree. All arrays have fixed lengths: there is
+// no heap.
 #![tactic(auto)]
 
-ghost use Rattle.std.specs.Prelude.{◌≡◌, ◌≤◌, [], ◌∷◌, length, take};
+ghost use Rattle.std.specs.Prelude.{◌≡◌, ◌≤◌, [], ◌∷◌, length};
 ghost use Rattle.vectors.specs.Reading.{Reads};
 ghost use Rattle.replay.specs.Agrees.{of_sheet, is_shown, agrees};
 ghost use Rattle.replay.specs.Replays.{Replays};
@@ -11,25 +12,17 @@ use std::io;
 use std::io::Read;
 use store::WORDS;
 use streams::read_input;
-use text::Written;
 use vectors::{STORE, TEXT, Tally, VectorReader};
 
-// Whether what is shown of a store, the first bytes of an array, is the listed text.
-fn is_shown(
-    bytes: &[u8],
-    size: usize,
-    listed: &[u8],
-    words: &mut [u16; WORDS],
-    out: &mut [u8],
-) -> bool
-    requires { (size ≤ length bytes.now) × (65536 ≤ length out.old) }
-    ensures { result ≡ is_shown (take size bytes.now) listed.now }
+// Whether what is shown of a store is the listed text.
+fn is_shown(store: &[u8], listed: &[u8], words: &mut [u16; WORDS], out: &mut [u8]) -> bool
+    requires { 65536 ≤ length out.old }
+    ensures { result ≡ is_shown store.now listed.now }
 {
-    let written = text_show::show(&bytes[..size], words, out);
-    let Written::Bytes(n) = written else {
+    let Ok(n) = text_show::show(store, words, out) else {
         return false;
     };
-    check::same(&out[0..n], listed)
+    check::same(&out[..n], listed)
 }
 
 // Whether the word before the store ends in t, as `nest` does: then the answer is a sheet's, with its words.
@@ -37,36 +30,33 @@ fn of_sheet(vector: &[u8]) -> bool
     ensures { result ≡ of_sheet vector.now }
 {
     let at = vectors::behind(vector, b' ');
-    if at < 2 {
-        return false;
-    }
-    vector[at - 2] == b't'
+    at >= 2 && vector[at - 2] == b't'
 }
 
 // Whether a vector's listed answer is right.
 fn agrees(
-    text: &[u8],
-    size: usize,
+    vector: &[u8],
     bytes: &mut [u8; STORE],
     words: &mut [u16; WORDS],
     out: &mut [u8; PRINTED],
 ) -> bool
-    requires { size ≤ length text.now }
-    ensures { result ≡ agrees (take size text.now) }
+    ensures { result ≡ agrees vector.now }
 {
-    if size >= TEXT {
+    if vector.len() >= TEXT {
         return false;
     }
-    let vector = &text[..size];
     let at = vectors::behind(vector, b' ');
     let rest = &vector[at..];
     let end = vectors::behind(rest, b'\n');
     let n = vectors::decode(&rest[..end], bytes);
     if of_sheet(vector) {
-        return is_nested(bytes, n, &rest[end..], words, out);
+        is_nested(&bytes[..n], &rest[end..], words, out)
+    } else {
+        is_shown(&bytes[..n], &rest[end..], words, out)
     }
-    is_shown(bytes, n, &rest[end..], words, out)
 }
+
+// The lent arrays go together through this and the next function; agrees takes them apart, so they are no struct.
 
 // One byte of the list; the dot behind a vector has its store answered and compared.
 fn fed(
@@ -81,10 +71,10 @@ fn fed(
     ensures { Reads agrees r (b ∷ []) text.old text.new result }
 {
     if vectors::ends(r, b) {
-        let size = r.size;
-        return vectors::counted(r, agrees(text, size, bytes, words, out));
+        vectors::counted(r, agrees(&text[..r.size], bytes, words, out))
+    } else {
+        vectors::keep(r, b, text)
     }
-    vectors::keep(r, b, text)
 }
 
 fn fed_all(
@@ -99,10 +89,8 @@ fn fed_all(
     ensures { Reads agrees r chunk.now text.old text.new result }
 {
     let mut reader = r;
-    let mut i: usize = 0;
-    while i < chunk.len() {
-        reader = fed(reader, chunk[i], text, bytes, words, out);
-        i += 1;
+    for b in chunk {
+        reader = fed(reader, *b, text, bytes, words, out);
     }
     reader
 }
@@ -117,12 +105,13 @@ fn replayed<R: Read>(list: &mut R, turns: u32) -> Tally
     let mut words = [0u16; WORDS];
     let mut out = [0u8; PRINTED];
     let mut reader = vectors::start();
-    let mut left = turns;
-    while left > 0 {
-        let n = read_input(list, &mut chunk).size;
+    for _turn in 0..turns {
+        let n = match read_input(list, &mut chunk) {
+            Ok(n) => n,
+            Err(failed) => failed.size,
+        };
         if n == 0 {
-            let tally = reader.tally;
-            return tally;
+            return reader.tally;
         }
         reader = fed_all(
             reader,
@@ -132,10 +121,8 @@ fn replayed<R: Read>(list: &mut R, turns: u32) -> Tally
             &mut words,
             &mut out,
         );
-        left -= 1;
     }
-    let tally = reader.tally;
-    tally
+    reader.tally
 }
 
 fn main(rt: HostRuntime) -> io::Result<()> {

@@ -9,9 +9,8 @@ use lib.Seq.{take_all}
 use Rattle.format.specs.Store.{Answer, accepted, refused}
 use Rattle.store.specs.Loaded.{words_after}
 use Rattle.nesting.specs.Sheet.{answer_words, printed}
-use Rattle.text.specs.declared.Written.{Written}
-use Rattle.text.specs.declared.Written.TheVariants.{Bytes, Full}
-use Rattle.text.specs.Whole.{InFront}
+use Rattle.std.specs.Prelude.{Ok}
+use Rattle.text.specs.Whole.{Written, full, InFront}
 use Rattle.text.specs.laws.WholeTexts.{in_front}
 use Rattle.sheet.specs.Written.{lent}
 use Rattle.text_nest.specs.Prints.{Prints}
@@ -35,10 +34,10 @@ module _ {store w w' out out' text text' : List ℕ} {r : Written} (p : Prints s
   lent_here : lent out ≡ 16384
   lent_here = ap lent as_lent ∙ lent_all
 
-  pub printed_never_full : 262144 ≤ length text → r ≡ Full → ⊥
+  pub printed_never_full : 262144 ≤ length text → r ≡ full → ⊥
   printed_never_full h = let l = lent_here in p.fits (omega arith) (omega arith)
 
-  pub printed_front : {n : ℕ} → r ≡ Bytes n → InFront (printed store) text' n
+  pub printed_front : {n : ℕ} → r ≡ Ok n → InFront (printed store) text' n
   unfolding printed
   printed_front is = rw lent_here at (in_front p.whole is)
 
@@ -54,14 +53,14 @@ pub answer_within : (v : List ℕ) → length (answer_of v) ≤ length v
 unfolding answer_of line_and_answer
 answer_within v = simp length-drop (omega arith)
 
--- The first n of these bytes are those of the line of digits.
-module _ (store listed : List ℕ) {out' : List ℕ} (left : out' ≡ words_left lent_words (answer_words store 16384)) (bytes : List ℕ) (n : ℕ)
-    (line : take n bytes ≡ hex_bytes (take (behind 10 listed) listed)) {lent : List ℕ} (as_lent : lent ≡ lent_words) {b : Bool}
-    (compared : b ≡ same_list out' (put_over (words_from_bytes (take n bytes)) lent)) where
+-- These bytes are those of the line of digits.
+module _ (store listed : List ℕ) {out' : List ℕ} (left : out' ≡ words_left lent_words (answer_words store 16384)) (bytes : List ℕ)
+    (line : bytes ≡ hex_bytes (take (behind 10 listed) listed)) {lent : List ℕ} (as_lent : lent ≡ lent_words) {b : Bool}
+    (compared : b ≡ same_list out' (put_over (words_from_bytes bytes) lent)) where
   same_words : b ≡ same_list (words_left lent_words (answer_words store 16384)) (put_over (listed_words listed) lent_words)
   same_words =
       compared
-      ∙ ap (λ o. same_list o (put_over (words_from_bytes (take n bytes)) lent)) left
+      ∙ ap (λ o. same_list o (put_over (words_from_bytes bytes) lent)) left
       ∙ ap (λ l. same_list (words_left lent_words (answer_words store 16384)) (put_over (words_from_bytes l) lent)) line
       ∙ ap (λ l. same_list (words_left lent_words (answer_words store 16384)) (put_over (listed_words listed) l)) as_lent
 

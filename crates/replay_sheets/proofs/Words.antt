@@ -5,8 +5,8 @@ use mathlib.Core.List.{List, [], ◌∷◌}
 use Prim.Native.Nat.{ℕ, zero, suc, ◌+◌, ◌-◌, ◌*◌, ◌/◌, ◌≤◌, ◌<◌}
 use native.Mathlib.Numerals.{add-one}
 use native.Mathlib.Omega.{arith}
-use lib.ListN.{length, get_or, take, drop, length-append, length-drop, drop_of_length-le, get_or-append}
-use lib.Seq.{drop-cons, get_or-append-add, get_or-drop, get_or-take, length-take-le}
+use lib.ListN.{length, get_or, drop, length-append, length-drop, drop_of_length-le, get_or-append}
+use lib.Seq.{drop-cons, get_or-append-add, get_or-drop}
 use lib.Dec.{eqb}
 use borrow.Author.Tests.{eq-eqb, ne_eqb}
 use Rattle.vectors.specs.Same.{same_list}
@@ -57,34 +57,20 @@ module _ (ws lent : List ℕ) where
       ∙ get_or-drop (length ws) lent (i - length ws) 0
       ∙ ap (λ j. get_or lent j 0) same
 
--- What stands at place i where words are put over lent ones: a word of the first n bytes, or what was lent.
-module _ (bytes lent : List ℕ) (n : ℕ) (within : n ≤ length bytes) where
-  size : length (take n bytes) ≡ n
-  size = length-take-le n bytes within
+-- What stands at place i where words are put over lent ones: a word of the bytes, or what was lent.
+module _ (bytes lent : List ℕ) where
+  pub as_long : length bytes ≤ 4 * length lent → length lent ≡ length (put_over (words_from_bytes bytes) lent)
+  as_long h = let q = quarter bytes in sym (put_over_length (words_from_bytes bytes) lent (omega arith))
 
-  pub as_long : n ≤ 4 * length lent → length lent ≡ length (put_over (words_from_bytes (take n bytes)) lent)
-  as_long h =
-      let q = quarter (take n bytes) in
-      let s = size in
-      sym (put_over_length (words_from_bytes (take n bytes)) lent (omega arith))
+  pub as_lent : (i : ℕ) → length bytes / 4 ≤ i → get_or lent i 0 ≡ get_or (put_over (words_from_bytes bytes) lent) i 0
+  as_lent i h = let q = quarter bytes in sym (put_over_rest (words_from_bytes bytes) lent i (omega arith))
 
-  pub as_lent : (i : ℕ) → n / 4 ≤ i → get_or lent i 0 ≡ get_or (put_over (words_from_bytes (take n bytes)) lent) i 0
-  as_lent i h =
-      let q = quarter (take n bytes) in
-      let s = size in
-      sym (put_over_rest (words_from_bytes (take n bytes)) lent i (omega arith))
-
-  pub as_listed : (i : ℕ) → i < n / 4 → {r : ℕ}
+  pub as_listed : (i : ℕ) → i < length bytes / 4 → {r : ℕ}
       → r ≡ word_from (get_or bytes (4 * i) 0) (get_or bytes (4 * i + 1) 0) (get_or bytes (4 * i + 2) 0) (get_or bytes (4 * i + 3) 0)
-      → r ≡ get_or (put_over (words_from_bytes (take n bytes)) lent) i 0
+      → r ≡ get_or (put_over (words_from_bytes bytes) lent) i 0
   as_listed i h is =
-      let q = quarter (take n bytes) in
-      let s = size in
-      let front : (k : ℕ) → k < n → get_or (take n bytes) k 0 ≡ get_or bytes k 0 = λ k l. get_or-take n bytes k 0 l in
-      is
-      ∙ sym (put_over_front (words_from_bytes (take n bytes)) lent i (omega arith)
-      ∙ word_at (take n bytes) i (omega arith)
-      ∙ rw (front (4 * i) (omega arith), front (4 * i + 1) (omega arith), front (4 * i + 2) (omega arith), front (4 * i + 3) (omega arith)))
+      let q = quarter bytes in
+      is ∙ sym (put_over_front (words_from_bytes bytes) lent i (omega arith) ∙ word_at bytes i (omega arith))
 
 -- ---- two lists of one length, compared place by place
 module _ (a b : List ℕ) (long : length a ≡ length b) (i : ℕ) where

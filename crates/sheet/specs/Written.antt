@@ -1,5 +1,5 @@
 -- A whole sheet in the lent words: what is put, measured and written, as the definition's sheet has it.
-use Rattle.std.specs.Prelude.{◌≡◌, Bool, ◌||◌, List, [], ◌∷◌, ◌++◌, ℕ, ◌-◌, ◌≤◌, ◌<◌, length, drop, ltb}
+use Rattle.std.specs.Prelude.{◌≡◌, Bool, ◌||◌, List, [], ◌∷◌, ◌++◌, ℕ, ◌-◌, ◌≤◌, ◌<◌, length, drop, min, Result, Ok, Err}
 use Rattle.meaning.specs.Lists.{pick}
 use Rattle.meaning.specs.Graph.{Graph}
 use Rattle.meaning.specs.Runs.{Nodes, ⟨⟩}
@@ -11,8 +11,7 @@ use Rattle.state_shown.specs.States.{ShowsBody}
 use Rattle.sheet_words.specs.declared.place.Place.{Place}
 use Rattle.sheet_words.specs.PutInFront.{Puts, written}
 use Rattle.sheet_words.specs.Parts.{OfState, most}
-use Rattle.sheet.specs.declared.whole.Sheet.{Sheet}
-use Rattle.sheet.specs.declared.whole.Sheet.TheVariants.{Words, TooFew}
+use Rattle.sheet.specs.declared.whole.TooFew.{TooFew}
 use Rattle.sheet_nodes.specs.Whole.{nested_lines, nested_words}
 use Rattle.state_words.specs.Rows.{attempts_at, kind_claimed, region_kind, twice_at}
 
@@ -76,12 +75,12 @@ Measures w outcome figure a = OfSheet w outcome figure (λ g x. a ≡ far - (far
 
 -- How many words are lent; no more than a word can say are used.
 abbrev pub lent : List ℕ → ℕ
-lent out = pick (ltb (length out) 4294967295) (length out) 4294967295
+lent out = min (length out) 4294967295
 
-pub data SheetWritten (ws out out' : List ℕ) : Sheet → Type 0 where
-  sheet_written : {n : ℕ} → n ≡ length ws → length ws ≤ lent out → out' ≡ ws ++ drop (length ws) out → SheetWritten ws out out' (Words n)
-  too_few : lent out < length ws → out' ≡ out → SheetWritten ws out out' TooFew
+pub data SheetWritten (ws out out' : List ℕ) : Result ℕ TooFew → Type 0 where
+  sheet_written : {n : ℕ} → n ≡ length ws → length ws ≤ lent out → out' ≡ ws ++ drop (length ws) out → SheetWritten ws out out' (Ok n)
+  too_few : lent out < length ws → out' ≡ out → SheetWritten ws out out' (Err (record {}))
 
-abbrev pub WritesSheet : List ℕ → ℕ → ℕ → List ℕ → List ℕ → Sheet → Type 0
+abbrev pub WritesSheet : List ℕ → ℕ → ℕ → List ℕ → List ℕ → Result ℕ TooFew → Type 0
 WritesSheet w outcome figure out out' a =
     OfSheet w outcome figure (λ g x. SheetWritten (sheet.sheet_words (sheet.sheet_of g x)) out out' a)

@@ -10,10 +10,7 @@ use store::WORDS;
 fn twice_word(w: &[u16; WORDS], at: Place) -> u16
     ensures { result ≡ written.twice_word w.now at }
 {
-    if at.twice {
-        return 1;
-    }
-    head(w, TWICE)
+    if at.twice { 1 } else { head(w, TWICE) }
 }
 
 pub fn put_first_line(

@@ -4,25 +4,25 @@ ghost use Rattle.sheet_nodes.specs.Regions as regions;
 use crate::pieces::put_piece;
 use sheet_defers::lines::put_set;
 use sheet_words::place::Place;
-use state_regions::regions::{READY, region_state};
+use state_regions::regions::{RegionState, region_state};
 use store::WORDS;
 
 fn put_if_ready(w: &[u16; WORDS], out: &mut [u32], at: Place, r: u16) -> Place
     ensures { regions.PutsReady w.now r out.old at out.new result }
 {
-    if region_state(w, r) == READY {
-        return put_piece(w, out, at, r);
+    if let RegionState::Ready = region_state(w, r) {
+        put_piece(w, out, at, r)
+    } else {
+        at
     }
-    at
 }
 
+// Its loop and that of put_sets stay two: the clause of a closure that puts words would be longer than the loop that it saves.
 fn put_unclaimed(w: &[u16; WORDS], out: &mut [u32], at: Place) -> Place
     ensures { regions.PutsUnclaimed w.now out.old at out.new result }
 {
     let mut e = at;
-    let mut r = fields::region_count(w);
-    while 0 < r {
-        r -= 1;
+    for r in (0..fields::region_count(w)).rev() {
         e = put_if_ready(w, out, e, r);
     }
     e
@@ -32,22 +32,18 @@ fn put_unclaimed(w: &[u16; WORDS], out: &mut [u32], at: Place) -> Place
 fn put_set_if_left(w: &[u16; WORDS], out: &mut [u32], at: Place, r: u16) -> Place
     ensures { regions.PutsGivenSet w.now r out.old at out.new result }
 {
-    if r == fields::entry(w) {
-        return put_set(w, out, at, r);
+    if r == fields::entry(w) || matches!(region_state(w, r), RegionState::Ready) {
+        put_set(w, out, at, r)
+    } else {
+        at
     }
-    if region_state(w, r) == READY {
-        return put_set(w, out, at, r);
-    }
-    at
 }
 
 fn put_sets(w: &[u16; WORDS], out: &mut [u32], at: Place) -> Place
     ensures { regions.PutsSets w.now out.old at out.new result }
 {
     let mut e = at;
-    let mut r = fields::region_count(w);
-    while 0 < r {
-        r -= 1;
+    for r in (0..fields::region_count(w)).rev() {
         e = put_set_if_left(w, out, e, r);
     }
     e

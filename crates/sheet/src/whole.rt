@@ -1,15 +1,16 @@
 // A whole sheet: measured, then written if the lent words are enough.
-ghost use Rattle.std.specs.Prelude.{◌≡◌, ◌-◌};
+ghost use Rattle.std.specs.Prelude.{◌≡◌};
 ghost use Rattle.sheet.specs.Written as written;
+ghost use Rattle.store.specs.declared.refusals.Refusal.TheVariants as refusal;
 
 use crate::first_line::put_first_line;
 use crate::leftover::put_leftover;
 use crate::pieces::{put_piece, put_whole};
 use nesting::{OUTCOME_CLOSED, OUTCOME_LEFTOVER, OUTCOME_UNTOUCHED, OUTCOME_WHOLE};
 use sheet_words::place::Place;
-use store::WORDS;
+use store::{Refusal, WORDS};
 
-// Outcomes as line 1 has them.
+// Outcomes as line 1 has them. Numbers, since write_sheet promises a sheet for any word there (WritesSheet).
 pub const UNTOUCHED: u16 = OUTCOME_UNTOUCHED as u16;
 
 pub const WHOLE: u16 = OUTCOME_WHOLE as u16;
@@ -23,47 +24,35 @@ const FAR: usize = 1099511627776;
 
 const MOST: usize = 4294967295;
 
-// How many words were written, or that the lent words are too few.
-#[derive(Clone, Copy)]
-pub enum Sheet {
-    Words(u32),
-    TooFew,
-}
+// The lent words are too few for the sheet: refusal 10.
+#[derive(Clone, Copy, PartialEq, Eq, Debug)]
+pub struct TooFew;
 
-// How many words were put, from FAR down.
-fn words_put(begin: usize) -> usize
-    ensures { result ≡ written.far - begin }
-{
-    if begin < FAR {
-        return FAR - begin;
+impl From<TooFew> for Refusal {
+    ghost from_gives = { λ _ why. why ≡ refusal.TooFewWords };
+
+    fn from(_few: TooFew) -> Refusal {
+        Refusal::TooFewWords
     }
-    0
 }
 
 // How many words are lent; no more than a word can say are used.
 fn lent(out: &[u32]) -> usize
     ensures { result ≡ written.lent out.now }
 {
-    if out.len() < MOST {
-        return out.len();
-    }
-    MOST
+    out.len().min(MOST)
 }
 
 // The lines behind line 1.
 fn put_lines(w: &[u16; WORDS], out: &mut [u32], at: Place, outcome: u16) -> Place
     ensures { written.PutsLines w.now outcome out.old at out.new result }
 {
-    if outcome == WHOLE {
-        return put_whole(w, out, at);
+    match outcome {
+        WHOLE => put_whole(w, out, at),
+        CLOSED => put_piece(w, out, at, fields::entry(w)),
+        LEFTOVER => put_leftover(w, out, at),
+        _ => at,
     }
-    if outcome == CLOSED {
-        return put_piece(w, out, at, fields::entry(w));
-    }
-    if outcome == LEFTOVER {
-        return put_leftover(w, out, at);
-    }
-    at
 }
 
 // A sheet that ends before `end`, and where it begins.
@@ -81,17 +70,22 @@ fn measure(w: &[u16; WORDS], outcome: u16, figure: u32) -> usize
 {
     let mut nowhere = [0u32; 1];
     let begin = put_sheet(w, &mut nowhere[..0], FAR, outcome, figure);
-    words_put(begin)
+    FAR.saturating_sub(begin)
 }
 
 // Nothing is written unless all of it fits.
-pub fn write_sheet(w: &[u16; WORDS], out: &mut [u32], outcome: u16, figure: u32) -> Sheet
+pub fn write_sheet(
+    w: &[u16; WORDS],
+    out: &mut [u32],
+    outcome: u16,
+    figure: u32,
+) -> Result<u32, TooFew>
     ensures { written.WritesSheet w.now outcome figure out.old out.new result }
 {
     let n = measure(w, outcome, figure);
     if lent(out) < n {
-        return Sheet::TooFew;
+        return Err(TooFew);
     }
     put_sheet(w, out, n, outcome, figure);
-    Sheet::Words(n as u32)
+    Ok(n as u32)
 }

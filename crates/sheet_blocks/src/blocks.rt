@@ -4,6 +4,7 @@ ghost use Rattle.meaning.specs.Graph.{region, no_value};
 ghost use Rattle.meaning.specs.Runs.{block};
 ghost use Rattle.nesting.specs.Nesting.{blocks_of};
 ghost use Rattle.fields.specs.ByNumber.{block_of, instr_of, instructions_before};
+ghost use Rattle.state_shown.specs.Values.{value};
 ghost use Rattle.sheet_words.specs.Parts as parts;
 ghost use Rattle.sheet_words.specs.Parts.{OfState};
 ghost use Rattle.sheet_words.specs.PutInFront.{Puts};
@@ -11,16 +12,16 @@ ghost use Rattle.sheet_blocks.specs.BlockParts.{item_part};
 
 use sheet_words::leads::BLOCK_LINE;
 use sheet_words::place::{Place, put, put_word};
-use sheet_words::value::put_value;
+use sheet_words::value::put_values;
 use state_words::values::value_word;
 use store::WORDS;
 
-fn put_read(w: &[u16; WORDS], out: &mut [u32], at: Place, r: u16, b: u16, i: u16, k: u16) -> Place
-    ensures { OfState w.now (λ g s. k < length (instr_of g r b i).reads → Puts out.old at
-        (parts.value_part s (get_or (instr_of g r b i).reads k no_value)) out.new result) }
+// The word of what an instruction reads at place k.
+fn read_word(w: &[u16; WORDS], r: u16, b: u16, i: u16, k: u16) -> u16
+    ensures { OfState w.now (λ g s. k < length (instr_of g r b i).reads
+        → value result ≡ get_or (instr_of g r b i).reads k no_value) }
 {
-    let v = fields::read(w, r, b, i, k);
-    put_value(w, out, at, value_word(v))
+    value_word(fields::read(w, r, b, i, k))
 }
 
 // The reads of an instruction, n of them, with their count in front.
@@ -28,13 +29,7 @@ fn put_reads(w: &[u16; WORDS], out: &mut [u32], at: Place, r: u16, b: u16, i: u1
     ensures { OfState w.now (λ g s. n ≡ length (instr_of g r b i).reads → Puts out.old at
         (parts.values_part s (instr_of g r b i).reads) out.new result) }
 {
-    let mut front = at;
-    let mut k = n;
-    while 0 < k {
-        k -= 1;
-        front = put_read(w, out, front, r, b, i, k);
-    }
-    put_word(out, front, n)
+    put_values(w, out, at, n, |k| read_word(w, r, b, i, k))
 }
 
 // Region, index, opcode, type, reads.
@@ -66,10 +61,8 @@ pub fn put_block(w: &[u16; WORDS], out: &mut [u32], at: Place, r: u16, b: u16, n
     let n = fields::block_length(w, r, b);
     let first = fields::instructions_before(w, r, b);
     let mut front = at;
-    let mut i = n;
-    while 0 < i {
-        i -= 1;
-        front = put_item(w, out, front, r, b, i, first + (i as u32));
+    for i in (0..n).rev() {
+        front = put_item(w, out, front, r, b, i, first + u32::from(i));
     }
     let items = put_word(out, front, n);
     let number = put(out, items, node);
@@ -84,10 +77,8 @@ pub fn put_blocks(w: &[u16; WORDS], out: &mut [u32], at: Place, r: u16) -> Place
     let first = fields::blocks_before(w, r);
     let n = fields::block_count(w, r);
     let mut front = at;
-    let mut b = n;
-    while 0 < b {
-        b -= 1;
-        front = put_block(w, out, front, r, b, first + (b as u32));
+    for b in (0..n).rev() {
+        front = put_block(w, out, front, r, b, first + u32::from(b));
     }
     front
 }

@@ -5,23 +5,24 @@ ghost use Rattle.meaning.specs.Graph.{region, no_value, exit_invocation};
 ghost use Rattle.meaning.specs.Runs.{exit};
 ghost use Rattle.record.specs.Stands.{OfRecord};
 ghost use Rattle.fields.specs.ByNumber.{end_values};
+ghost use Rattle.state_shown.specs.Values.{value};
 ghost use Rattle.sheet_words.specs.Parts as parts;
 ghost use Rattle.sheet_words.specs.Parts.{OfState};
 ghost use Rattle.sheet_words.specs.PutInFront.{Puts};
 
 use fields::Terminator;
 use sheet_words::leads::EXIT_LINE;
-use sheet_words::place::{Place, put_three, put_word};
-use sheet_words::value::put_value;
+use sheet_words::place::{Place, put_three};
+use sheet_words::value::put_values;
 use state_words::values::value_word;
 use store::WORDS;
 
-fn put_end_value(w: &[u16; WORDS], out: &mut [u32], at: Place, r: u16, k: u16) -> Place
-    ensures { OfState w.now (λ g s. k < length (end_values g r) → Puts out.old at
-        (parts.value_part s (get_or (end_values g r) k no_value)) out.new result) }
+// The word of the value of region r's terminator at place k.
+fn end_word(w: &[u16; WORDS], r: u16, k: u16) -> u16
+    ensures { OfState w.now (λ g s. k < length (end_values g r)
+        → value result ≡ get_or (end_values g r) k no_value) }
 {
-    let v = fields::value(w, r, k);
-    put_value(w, out, at, value_word(v))
+    value_word(fields::value(w, r, k))
 }
 
 // The values of region r's terminator, with their count in front.
@@ -30,13 +31,7 @@ pub fn put_end_values(w: &[u16; WORDS], out: &mut [u32], at: Place, r: u16) -> P
         out.new result) }
 {
     let n = fields::value_count(w, r);
-    let mut front = at;
-    let mut k = n;
-    while 0 < k {
-        k -= 1;
-        front = put_end_value(w, out, front, r, k);
-    }
-    put_word(out, front, n)
+    put_values(w, out, at, n, |k| end_word(w, r, k))
 }
 
 // Of an exit; 0 where the terminator is another.
@@ -44,11 +39,10 @@ fn opcode(w: &[u16; WORDS], r: u16) -> u16
     ensures { OfRecord w.now (λ g. (op : ℕ) (vs : List graph.Value) → (region g r).terminator ≡ exit_invocation op vs
         → result ≡ op) }
 {
-    let x = fields::terminator(w, r);
-    if let Terminator::ExitInvocation(op) = x {
-        return op;
+    match fields::terminator(w, r) {
+        Terminator::ExitInvocation(op) => op,
+        _ => 0,
     }
-    0
 }
 
 // The exit of region r, as this node.

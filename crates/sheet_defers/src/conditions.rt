@@ -10,14 +10,13 @@ pub fn put_condition(w: &[u16; WORDS], out: &mut [u32], at: Place, c: u16) -> Pl
     ensures { PutsCondition w.now c out.old at out.new result }
 {
     if c < MERGE {
-        return put_word(out, at, c);
+        put_word(out, at, c)
+    } else {
+        let n = shape_size(cond_shape(w, c));
+        let mut to = at;
+        for j in (0..n).rev() {
+            to = put_condition(w, out, to, cond_part(w, c, j));
+        }
+        put_three(out, to, MERGE, cond_node(w, c), n)
     }
-    let n = shape_size(cond_shape(w, c));
-    let mut to = at;
-    let mut j = n;
-    while 0 < j {
-        to = put_condition(w, out, to, cond_part(w, c, j - 1));
-        j -= 1;
-    }
-    put_three(out, to, MERGE, cond_node(w, c), n)
 }

@@ -5,8 +5,8 @@ ghost use Rattle.sheet_words.specs.Parts.{OfState, values_part};
 ghost use Rattle.sheet_words.specs.PutInFront.{Puts};
 
 use cfg_bundles::bundles::target_input_count;
-use sheet_words::place::{Place, put_word};
-use sheet_words::value::put_value;
+use sheet_words::place::Place;
+use sheet_words::value::put_values;
 use state_sets::sets::{target, target_input};
 use state_words::bundle_numbers::BundleNumber;
 use store::WORDS;
@@ -17,11 +17,5 @@ pub fn put_target_inputs(w: &[u16; WORDS], out: &mut [u32], at: Place, p: Bundle
         → Puts out.old at (values_part s e.target_inputs) out.new result) }
 {
     let n = target_input_count(w, target(w, p));
-    let mut to = at;
-    let mut k = n;
-    while 0 < k {
-        k -= 1;
-        to = put_value(w, out, to, target_input(w, p, k));
-    }
-    put_word(out, to, n)
+    put_values(w, out, at, n, |k| target_input(w, p, k))
 }

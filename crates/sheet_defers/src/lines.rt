@@ -43,9 +43,7 @@ pub fn put_set(w: &[u16; WORDS], out: &mut [u32], at: Place, r: u16) -> Place
     let start = set_start(w, r);
     let n = set_length(w, r);
     let mut to = at;
-    let mut i = n;
-    while 0 < i {
-        i -= 1;
+    for i in (0..n).rev() {
         to = put_bundle(w, out, to, r, bundle_at(start, i), n);
     }
     to

@@ -1,4 +1,4 @@
-// The inputs that a loop keeps, along their cells: the last is put first, and then their count.
+// The inputs that a loop keeps, along their cells: the last is put first, and then their count, which is known only there.
 ghost use Rattle.std.specs.Prelude.{◌≡◌, ℕ};
 ghost use Rattle.nesting.specs.Nesting.{LoopInputs};
 ghost use Rattle.sheet_words.specs.Parts.{OfState, values_part};
@@ -17,9 +17,10 @@ fn kept_value(w: &[u16; WORDS], h: Handle, back: bool) -> u16
     ensures { result ≡ kept.kept_word w.now back h.0 }
 {
     if back {
-        return kept_back(w, h);
+        kept_back(w, h)
+    } else {
+        input(kept_wrapper(w, h), kept_input(w, h))
     }
-    input(kept_wrapper(w, h), kept_input(w, h))
 }
 
 // The outputs of the loop's body, or the loop's initial inputs.

@@ -16,17 +16,16 @@ fn put_cell(w: &[u16; WORDS], out: &mut [u32], at: Place, h: Handle) -> Place
     ensures { walk.PutsCell w.now h.0 out.old at out.new result }
 {
     let mut e = at;
-    let mut j = inner_total(w, h);
-    while 0 < j {
-        let list = inner_at(w, h, j - 1);
+    for j in (0..inner_total(w, h)).rev() {
+        let list = inner_at(w, h, j);
         let walked = walked_list(w, list);
         let nodes = put_nodes(w, out, e, walked);
-        e = put_cell_lines(w, out, nodes, h, j);
-        j -= 1;
+        e = put_cell_lines(w, out, nodes, h, j + 1);
     }
     put_cell_lines(w, out, e, h, 0)
 }
 
+// Along cells: no index is counted.
 #[cycle(put_cell_put_nodes)]
 pub fn put_nodes(w: &[u16; WORDS], out: &mut [u32], at: Place, list: Handle) -> Place
     ensures { regions.PutsNodes w.now list.0 out.old at out.new result }

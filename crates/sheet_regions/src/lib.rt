@@ -1,8 +1,7 @@
 // The line of a region, and the numbers of a list's child nodes in it, with their count in front.
 #![tactic(auto)]
 
-ghost use Rattle.std.specs.Prelude.{◌≡◌, [], ◌∷◌, ◌+◌};
-ghost use Rattle.sheet_words.specs.Parts.{most};
+ghost use Rattle.std.specs.Prelude.{[], ◌∷◌};
 ghost use Rattle.sheet_regions.specs.Numbers as numbers;
 ghost use Rattle.sheet_regions.specs.Lists as lists;
 
@@ -11,7 +10,7 @@ pub mod types;
 
 use sheet_words::place::{Place, put};
 use state_lists::list_before;
-use state_nodes::cells::{BLOCKS, JOIN, blocks_region, cell_node, cell_tag, join_list};
+use state_nodes::cells::{CellTag, blocks_region, cell_node, cell_tag, join_list};
 use state_words::handles::Handle;
 use store::WORDS;
 
@@ -22,21 +21,13 @@ pub struct Counted {
     pub count: u32,
 }
 
-fn one_more(n: u32) -> u32
-    ensures { result ≡ most (n + 1) }
-{
-    if n < 4294967295 {
-        return n + 1;
-    }
-    n
-}
-
 pub fn put_number(out: &mut [u32], x: Counted, node: u32) -> Counted
     ensures { numbers.PutsNumbers out.old x (node ∷ []) out.new result }
 {
-    let at = put(out, x.at, node);
-    let count = one_more(x.count);
-    Counted { at, count }
+    Counted {
+        at: put(out, x.at, node),
+        count: x.count.saturating_add(1),
+    }
 }
 
 fn put_block_numbers(w: &[u16; WORDS], out: &mut [u32], x: Counted, r: u16) -> Counted
@@ -44,10 +35,8 @@ fn put_block_numbers(w: &[u16; WORDS], out: &mut [u32], x: Counted, r: u16) -> C
 {
     let first = fields::blocks_before(w, r);
     let mut y = x;
-    let mut b = fields::block_count(w, r);
-    while 0 < b {
-        b -= 1;
-        y = put_number(out, y, first + (b as u32));
+    for b in (0..fields::block_count(w, r)).rev() {
+        y = put_number(out, y, first + u32::from(b));
     }
     y
 }
@@ -56,23 +45,25 @@ fn put_block_numbers(w: &[u16; WORDS], out: &mut [u32], x: Counted, r: u16) -> C
 fn put_cell_numbers(w: &[u16; WORDS], out: &mut [u32], x: Counted, h: Handle) -> Counted
     ensures { lists.PutsCellNumbers w.now h.0 out.old x out.new result }
 {
-    if cell_tag(w, h) == BLOCKS {
-        return put_block_numbers(w, out, x, blocks_region(w, h));
+    if cell_tag(w, h) == CellTag::Blocks {
+        put_block_numbers(w, out, x, blocks_region(w, h))
+    } else {
+        put_number(out, x, u32::from(cell_node(w, h)))
     }
-    put_number(out, x, cell_node(w, h) as u32)
 }
 
+// Along cells: no index is counted.
 fn put_numbers(w: &[u16; WORDS], out: &mut [u32], x: Counted, list: Handle) -> Counted
     ensures { lists.PutsList w.now list.0 out.old x out.new result }
 {
     let mut y = x;
     let mut h = list;
     while 0 < h.0 {
-        if cell_tag(w, h) == JOIN {
-            y = put_numbers(w, out, y, join_list(w, h));
+        y = if cell_tag(w, h) == CellTag::Join {
+            put_numbers(w, out, y, join_list(w, h))
         } else {
-            y = put_cell_numbers(w, out, y, h);
-        }
+            put_cell_numbers(w, out, y, h)
+        };
         h = list_before(w, h);
     }
     y

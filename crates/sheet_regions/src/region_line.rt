@@ -8,7 +8,8 @@ use sheet_words::place::{Place, put_word};
 use state_words::handles::Handle;
 use store::WORDS;
 
-// The inputs that a line names: a case's region has none, a piece of the answer all of the record's, a loop's body those that are kept.
+// The inputs that a line names: a case's region has none, a piece of the answer all of the record's, a loop's body those that are kept. An
+// enum and no closure that puts them: the clause of its call would be longer than the three arms.
 #[derive(Clone, Copy)]
 pub enum RegionInputs {
     None,

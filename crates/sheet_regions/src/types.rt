@@ -19,15 +19,13 @@ pub fn put_all_types(w: &[u16; WORDS], out: &mut [u32], at: Place, r: u16) -> Pl
 {
     let n = fields::input_count(w, r);
     let mut front = at;
-    let mut k = n;
-    while 0 < k {
-        k -= 1;
+    for k in (0..n).rev() {
         front = put_word(out, front, fields::input_type(w, r, k));
     }
     put_word(out, front, n)
 }
 
-// Of those that a loop keeps of its header r's, along their cells.
+// Of those that a loop keeps of its header r's, along their cells: how many they are is known at the last.
 pub fn put_kept_types(w: &[u16; WORDS], out: &mut [u32], at: Place, list: Handle, r: u16) -> Place
     ensures { OfState w.now (λ g s. (y : LoopInputs) → kept.KeepsInputs g w.now r list.0 y
         → Puts out.old at (plain (length y.types ∷ y.types)) out.new result) }

@@ -22,14 +22,13 @@ use state_words::handles::Handle;
 use store::WORDS;
 
 // ---- The outputs of a node: their values in the case at place j, and their types. Each list has its count in front.
+// Two loops: the clause of a closure that puts words would be longer than the loop that it saves.
 fn put_case_outputs(w: &[u16; WORDS], out: &mut [u32], at: Place, node: u16, j: u16) -> Place
     ensures { outputs.PutsCaseOutputs w.now node j out.old at out.new result }
 {
     let mut e = at;
     let mut n: u16 = 0;
-    let mut o = output_count(w);
-    while 0 < o {
-        o -= 1;
+    for o in (0..output_count(w)).rev() {
         if output_node(w, o) == node {
             e = put_value(w, out, e, output_value(w, o, j));
             n += 1;
@@ -43,9 +42,7 @@ fn put_output_types(w: &[u16; WORDS], out: &mut [u32], at: Place, node: u16) -> 
 {
     let mut e = at;
     let mut n: u16 = 0;
-    let mut o = output_count(w);
-    while 0 < o {
-        o -= 1;
+    for o in (0..output_count(w)).rev() {
         if output_node(w, o) == node {
             e = put_word(out, e, output_type(w, o));
             n += 1;
@@ -59,10 +56,11 @@ fn put_regions(w: &[u16; WORDS], out: &mut [u32], x: Counted, list: Handle) -> C
     ensures { numbers.PutsRegions w.now list.0 out.old x out.new result }
 {
     if list.0 == 0 {
-        return x;
+        x
+    } else {
+        let y = put_regions(w, out, x, cases_after(w, list));
+        put_number(out, y, u32::from(case_region(w, list)))
     }
-    let y = put_regions(w, out, x, cases_after(w, list));
-    put_number(out, y, case_region(w, list) as u32)
 }
 
 fn put_case_numbers(w: &[u16; WORDS], out: &mut [u32], at: Place, list: Handle) -> Place
@@ -77,9 +75,10 @@ fn kind_word(shape: u16) -> u16
     ensures { result ≡ lines.kind_word shape }
 {
     if shape == BOOL_COND {
-        return BOOL_SELECT;
+        BOOL_SELECT
+    } else {
+        NUM_SELECT
     }
-    NUM_SELECT
 }
 
 // The region line of a case, at place j of its node's; it has no inputs.

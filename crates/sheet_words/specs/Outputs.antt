@@ -1,5 +1,5 @@
 -- A value's three words: an output by its node, and its place among that node's.
-use Rattle.std.specs.Prelude.{List, [], ◌∷◌, ℕ, zero, suc, ◌+◌, ltb, eqb}
+use Rattle.std.specs.Prelude.{List, [], ◌∷◌, ℕ, zero, suc, ◌+◌, ltb, eqb, min}
 use Rattle.meaning.specs.Lists.{pick}
 use Rattle.state_words.specs.Sections.{word, head}
 use Rattle.state_words.specs.Values.{parts_of}
@@ -13,11 +13,8 @@ unfoldable pub node_times : List ℕ → ℕ → ℕ → ℕ
 node_times w node zero = 0
 node_times w node (suc i) = node_times w node i + pick (eqb (output_node w i) node) 1 0
 
-abbrev pub least : ℕ → ℕ → ℕ
-least a b = pick (ltb a b) a b
-
 abbrev pub place_among : List ℕ → ℕ → ℕ → ℕ
-place_among w node o = node_times w node (least o (word w head outputs_at))
+place_among w node o = node_times w node (min o (word w head outputs_at))
 
 abbrev pub output_words : List ℕ → ℕ → List ℕ
 output_words w o = 3 ∷ node_of w o ∷ place_among w (node_of w o) o ∷ []

@@ -1,4 +1,5 @@
 // The first word of each line of a sheet, and the word of a select's kind, as the writers of lines put them: a word of 16 bits each.
+// They are only put, never told apart: so no enum.
 use nesting::{
     KIND_BOOL, KIND_NUM, LEAD_BLOCK, LEAD_DEFER, LEAD_EXIT, LEAD_LOOP, LEAD_REGION, LEAD_SELECT,
 };

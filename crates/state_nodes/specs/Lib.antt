@@ -1,1 +1,4 @@
+pub mod CellTags
 pub mod NodeTables
+pub mod RewriteKinds
+pub mod laws

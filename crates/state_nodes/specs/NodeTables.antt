@@ -1,7 +1,7 @@
 -- What a step does to the tables of nodes: cells, outputs, conditions, rewrites.
 use Rattle.std.specs.Prelude.{◌≡◌, List, [], ◌∷◌, ℕ, ◌+◌, ◌-◌, ◌≤◌, ◌<◌, get_or, ltb, eqb}
-use Rattle.state_words.specs.declared.defined.Defined.{Defined}
-use Rattle.state_words.specs.declared.defined.Defined.TheVariants.{Number, Full}
+use Rattle.std.specs.Prelude.{Ok}
+use Rattle.state_words.specs.Totals.{Defined, Full}
 use Rattle.state_nodes.specs.declared.cells.Cell.{Cell}
 use Rattle.state_nodes.specs.declared.cells.Cell.TheVariants as cell
 use Rattle.state_words.specs.Sections.{section, word, stored, stored_all, filled, head, cells, rewrites}
@@ -89,14 +89,14 @@ inserted l r kind vs =
 pub data OutputDefined (node ty : ℕ) (vs l l' : List ℕ) : Defined → Type 0 where
   output_defined : {o : ℕ} → o ≡ word l head outputs_at → o < most_outputs
       → l' ≡ stored (stored_all l outputs (output_node_at o) (node ∷ ty ∷ vs)) head outputs_at (o + 1)
-      → OutputDefined node ty vs l l' (Number o)
+      → OutputDefined node ty vs l l' (Ok o)
   outputs_full : most_outputs ≤ word l head outputs_at → l' ≡ l → OutputDefined node ty vs l l' Full
 
 -- Of a select by its cell.
 pub data MergeDefined (select : ℕ) (parts l l' : List ℕ) : Defined → Type 0 where
   merge_defined : {m c : ℕ} → m ≡ word l head merges_at → m < most_merges → c ≡ merges_from + m
       → l' ≡ stored (stored_all l conditions (merge_row_at c) (select ∷ parts)) head merges_at (m + 1)
-      → MergeDefined select parts l l' (Number c)
+      → MergeDefined select parts l l' (Ok c)
   merges_full : most_merges ≤ word l head merges_at → l' ≡ l → MergeDefined select parts l l' Full
 
 -- Word i of the cell of condition c's select.

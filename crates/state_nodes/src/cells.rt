@@ -2,32 +2,64 @@
 // h is cell h, the last of it, with the list before it (of cases: the first, with those after it). Nothing in a cell ever changes.
 ghost use Rattle.std.specs.Prelude.{◌≡◌, ◌≤◌};
 ghost use Rattle.state_words.specs.Rows as rows;
+ghost use Rattle.state_nodes.specs.CellTags as tags;
 ghost use Rattle.state_nodes.specs.NodeTables as tables;
 
 use state_words::defined::{CELL_TOTAL, head, set_head};
-use state_words::handles::Handle;
+use state_words::handles::{EMPTY, Handle};
 use state_words::sections::{CELLS, get, put_all};
 use store::WORDS;
 
 // A cell has six words.
 const ROW: usize = 6;
 
-// All blocks of a region.
-pub const BLOCKS: u16 = 1;
+// All blocks of a region; a list behind another; an exit; a select; a loop; a case of a select; an input that a loop keeps. A lent word
+// may hold any number: one that is no tag's stays that number.
+#[derive(Clone, Copy, PartialEq, Eq)]
+pub enum CellTag {
+    Blocks,
+    Join,
+    Exit,
+    Select,
+    Loop,
+    Case,
+    Kept,
+    Unknown(u16),
+}
 
-// A list behind another.
-pub const JOIN: u16 = 2;
+impl From<u16> for CellTag {
+    fn from(word: u16) -> Self
+        ensures { result ≡ tags.tag_of word }
+    {
+        match word {
+            1 => CellTag::Blocks,
+            2 => CellTag::Join,
+            3 => CellTag::Exit,
+            4 => CellTag::Select,
+            5 => CellTag::Loop,
+            6 => CellTag::Case,
+            7 => CellTag::Kept,
+            _ => CellTag::Unknown(word),
+        }
+    }
+}
 
-pub const EXIT: u16 = 3;
-
-pub const SELECT: u16 = 4;
-
-pub const LOOP: u16 = 5;
-
-// A case of a select; an input that a loop keeps.
-const CASE: u16 = 6;
-
-const KEPT: u16 = 7;
+impl From<CellTag> for u16 {
+    fn from(tag: CellTag) -> u16
+        ensures { result ≡ tags.tag_word tag }
+    {
+        match tag {
+            CellTag::Blocks => 1,
+            CellTag::Join => 2,
+            CellTag::Exit => 3,
+            CellTag::Select => 4,
+            CellTag::Loop => 5,
+            CellTag::Case => 6,
+            CellTag::Kept => 7,
+            CellTag::Unknown(word) => word,
+        }
+    }
+}
 
 // No nesting makes more: docs/STATE.md has the sum.
 const MOST_CELLS: u16 = 652;
@@ -80,17 +112,15 @@ fn cell_word(w: &[u16; WORDS], h: Handle, i: usize) -> u16
     requires { i ≤ 65600 }
     ensures { result ≡ rows.cell_word w.now h.0 i }
 {
-    get(w, CELLS, ROW * (h.0 as usize) + i)
+    get(w, CELLS, ROW * usize::from(h.0) + i)
 }
 
 // An earlier handle.
+#[tactic(auto, unfolding(state_words::specs::Rows::earlier))]
 fn earlier(p: u16, h: Handle) -> Handle
     ensures { result.0 ≡ rows.earlier p h.0 }
 {
-    if p < h.0 {
-        return Handle(p);
-    }
-    Handle(0)
+    if p < h.0 { Handle(p) } else { EMPTY }
 }
 
 // The list that a cell names at one of its words.
@@ -101,10 +131,10 @@ fn list_word(w: &[u16; WORDS], h: Handle, i: usize) -> Handle
     earlier(cell_word(w, h, i), h)
 }
 
-pub fn cell_tag(w: &[u16; WORDS], h: Handle) -> u16
-    ensures { result ≡ rows.cell_tag w.now h.0 }
+pub fn cell_tag(w: &[u16; WORDS], h: Handle) -> CellTag
+    ensures { result ≡ tags.tag_of (rows.cell_tag w.now h.0) }
 {
-    cell_word(w, h, 0)
+    CellTag::from(cell_word(w, h, 0))
 }
 
 // The list that a cell follows.
@@ -241,38 +271,52 @@ fn cell_words(x: Cell) -> [u16; 6]
     ensures { result ≡ tables.cell_words x }
 {
     match x {
-        Cell::Blocks { region } => [BLOCKS, 0, region, 0, 0, 0],
-        Cell::Join { before, list } => [JOIN, before.0, list.0, 0, 0, 0],
+        Cell::Blocks { region } => [u16::from(CellTag::Blocks), 0, region, 0, 0, 0],
+        Cell::Join { before, list } => [u16::from(CellTag::Join), before.0, list.0, 0, 0, 0],
         Cell::Exit {
             before,
             node,
             region,
-        } => [EXIT, before.0, node, region, 0, 0],
+        } => [u16::from(CellTag::Exit), before.0, node, region, 0, 0],
         Cell::Select {
             before,
             node,
             shape,
             scrutinee,
             cases,
-        } => [SELECT, before.0, node, shape, scrutinee, cases.0],
+        } => [
+            u16::from(CellTag::Select),
+            before.0,
+            node,
+            shape,
+            scrutinee,
+            cases.0,
+        ],
         Cell::Loop {
             body,
             node,
             header,
             repeat,
             kept,
-        } => [LOOP, body.0, node, header, repeat, kept.0],
+        } => [
+            u16::from(CellTag::Loop),
+            body.0,
+            node,
+            header,
+            repeat,
+            kept.0,
+        ],
         Cell::Case {
             after,
             region,
             children,
-        } => [CASE, after.0, region, children.0, 0, 0],
+        } => [u16::from(CellTag::Case), after.0, region, children.0, 0, 0],
         Cell::Kept {
             before,
             input,
             wrapper,
             back,
-        } => [KEPT, before.0, input, wrapper, back, 0],
+        } => [u16::from(CellTag::Kept), before.0, input, wrapper, back, 0],
     }
 }
 
@@ -281,25 +325,23 @@ pub fn add_cell(w: &mut [u16; WORDS], x: Cell) -> Handle
     ensures { tables.Adds w.old w.new x result.0 }
 {
     let n = head(w, CELL_TOTAL);
-    if n < MOST_CELLS {
-        let at = ROW * (n as usize);
-        let xs = cell_words(x);
-        put_all(w, CELLS, at, &xs);
-        set_head(w, CELL_TOTAL, n + 1);
-        return Handle(n);
+    if n >= MOST_CELLS {
+        return EMPTY;
     }
-    Handle(0)
+    put_all(w, CELLS, ROW * usize::from(n), &cell_words(x));
+    set_head(w, CELL_TOTAL, n + 1);
+    Handle(n)
 }
 
 // A list behind another; no cell where one is empty.
 pub fn join(w: &mut [u16; WORDS], a: Handle, b: Handle) -> Handle
     ensures { tables.Joins w.old w.new a.0 b.0 result.0 }
 {
-    if a.0 == 0 {
-        return b;
+    if a == EMPTY {
+        b
+    } else if b == EMPTY {
+        a
+    } else {
+        add_cell(w, Cell::Join { before: a, list: b })
     }
-    if b.0 == 0 {
-        return a;
-    }
-    add_cell(w, Cell::Join { before: a, list: b })
 }

@@ -6,7 +6,7 @@ ghost use Rattle.state_nodes.specs.NodeTables as tables;
 ghost use Rattle.state_words.specs.Rows as rows;
 
 use crate::cells::{select_node, select_scrutinee, select_shape};
-use state_words::defined::{Defined, MERGES, MOST_MERGES, head, set_head};
+use state_words::defined::{MERGES, MOST_MERGES, TooMany, head, set_head};
 use state_words::handles::Handle;
 use state_words::sections::{CONDITIONS, get, put, put_all};
 use store::WORDS;
@@ -14,7 +14,7 @@ use store::WORDS;
 // A record has nine words.
 const ROW: usize = 9;
 
-// As the sheet has them; the record of number m is MERGE + m.
+// As the sheet has them; the record of number m is MERGE + m. So a condition stays a number: most of them are places of records.
 pub const TRUE_COND: u16 = 1;
 
 pub const FALSE_COND: u16 = 2;
@@ -23,7 +23,8 @@ pub const UNDEF_COND: u16 = 3;
 
 pub const MERGE: u16 = 4;
 
-// A select's shape: 0 for a boolean test, which has two cases, else the number of cases of a test on a number.
+// A select's shape, one word of its cell: 0 for a boolean test, which has two cases, else the number of cases. The definitions
+// (shape_size) take the number.
 pub const BOOL_COND: u16 = 0;
 
 fn cond_word(w: &[u16; WORDS], c: u16, i: usize) -> u16
@@ -83,7 +84,7 @@ pub fn shape_size(shape: u16) -> u16
 }
 
 // A record more, of a select by its cell.
-pub fn define_merge(w: &mut [u16; WORDS], select: Handle, parts: &[u16; 8]) -> Defined
+pub fn define_merge(w: &mut [u16; WORDS], select: Handle, parts: &[u16; 8]) -> Result<u16, TooMany>
     ensures { tables.MergeDefined select.0 parts.now w.old w.new result }
 {
     let m = head(w, MERGES);
@@ -93,7 +94,7 @@ pub fn define_merge(w: &mut [u16; WORDS], select: Handle, parts: &[u16; 8]) -> D
         put(w, CONDITIONS, at, select.0);
         put_all(w, CONDITIONS, at + 1, parts);
         set_head(w, MERGES, m + 1);
-        return Defined::Number(c);
+        return Ok(c);
     }
-    Defined::Full
+    Err(TooMany)
 }

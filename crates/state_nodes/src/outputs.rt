@@ -4,7 +4,7 @@ ghost use Rattle.state_words.specs.Sections as sections;
 ghost use Rattle.state_nodes.specs.NodeTables as tables;
 ghost use Rattle.state_words.specs.Rows as rows;
 
-use state_words::defined::{Defined, MOST_OUTPUTS, OUTPUT_TOTAL, head, set_head};
+use state_words::defined::{MOST_OUTPUTS, OUTPUT_TOTAL, TooMany, head, set_head};
 use state_words::sections::{OUTPUTS, get, put, put_all};
 use store::WORDS;
 
@@ -36,7 +36,12 @@ pub fn output_value(w: &[u16; WORDS], o: u16, j: u16) -> u16
     get(w, OUTPUTS, ROW * (o as usize) + 2 + (j as usize))
 }
 
-pub fn define_output(w: &mut [u16; WORDS], node: u16, ty: u16, vs: &[u16; 8]) -> Defined
+pub fn define_output(
+    w: &mut [u16; WORDS],
+    node: u16,
+    ty: u16,
+    vs: &[u16; 8],
+) -> Result<u16, TooMany>
     ensures { tables.OutputDefined node ty vs.now w.old w.new result }
 {
     let o = output_count(w);
@@ -46,7 +51,7 @@ pub fn define_output(w: &mut [u16; WORDS], node: u16, ty: u16, vs: &[u16; 8]) ->
         put(w, OUTPUTS, at + 1, ty);
         put_all(w, OUTPUTS, at + 2, vs);
         set_head(w, OUTPUT_TOTAL, o + 1);
-        return Defined::Number(o);
+        return Ok(o);
     }
-    Defined::Full
+    Err(TooMany)
 }

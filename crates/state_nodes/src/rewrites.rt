@@ -4,6 +4,7 @@ ghost use Rattle.std.specs.Prelude.{◌≡◌, ◌<◌};
 ghost use Rattle.nesting.specs.Nesting as limits;
 ghost use Rattle.state_words.specs.Sections as sections;
 ghost use Rattle.state_nodes.specs.NodeTables as tables;
+ghost use Rattle.state_nodes.specs.RewriteKinds as kinds;
 ghost use Rattle.state_words.specs.Rows as rows;
 
 use state_words::defined::MOST_REGIONS;
@@ -13,11 +14,40 @@ use store::WORDS;
 // An entry has five words.
 const ROW: usize = 5;
 
-pub const NONE: u16 = 0;
+// How a region's inputs are rewritten. A lent word may hold any number: one that is no kind's stays that number.
+#[derive(Clone, Copy, PartialEq, Eq)]
+pub enum RewriteKind {
+    NotRewritten,
+    ReplaceWith,
+    RenumberOrReplaceWith,
+    Unknown(u16),
+}
 
-pub const REPLACE_WITH: u16 = 1;
+impl From<u16> for RewriteKind {
+    fn from(word: u16) -> Self
+        ensures { result ≡ kinds.rewrite_kind_of word }
+    {
+        match word {
+            0 => RewriteKind::NotRewritten,
+            1 => RewriteKind::ReplaceWith,
+            2 => RewriteKind::RenumberOrReplaceWith,
+            _ => RewriteKind::Unknown(word),
+        }
+    }
+}
 
-pub const RENUMBER_OR_REPLACE_WITH: u16 = 2;
+impl From<RewriteKind> for u16 {
+    fn from(kind: RewriteKind) -> u16
+        ensures { result ≡ kinds.rewrite_kind_word kind }
+    {
+        match kind {
+            RewriteKind::NotRewritten => 0,
+            RewriteKind::ReplaceWith => 1,
+            RewriteKind::RenumberOrReplaceWith => 2,
+            RewriteKind::Unknown(word) => word,
+        }
+    }
+}
 
 // Where it is said how many entries are set. The others are none, whatever stands there: nothing of them was ever written.
 const ENTRIES: usize = 640;
@@ -28,19 +58,21 @@ fn entries(w: &[u16; WORDS]) -> u16
     get(w, REWRITES, ENTRIES)
 }
 
-pub fn rewrite_kind(w: &[u16; WORDS], r: u16) -> u16
-    ensures { result ≡ tables.rewrite_kind w.now r }
+#[tactic(auto, unfolding(crate::specs::NodeTables::entry_kind))]
+pub fn rewrite_kind(w: &[u16; WORDS], r: u16) -> RewriteKind
+    ensures { result ≡ kinds.rewrite_kind_of (tables.rewrite_kind w.now r) }
 {
     if r < entries(w) {
-        return get(w, REWRITES, ROW * (r as usize));
+        RewriteKind::from(get(w, REWRITES, ROW * usize::from(r)))
+    } else {
+        RewriteKind::NotRewritten
     }
-    NONE
 }
 
 pub fn rewrite_value(w: &[u16; WORDS], r: u16, k: u16) -> u16
     ensures { result ≡ rows.rewrite_value w.now r k }
 {
-    get(w, REWRITES, ROW * (r as usize) + 1 + (k as usize))
+    get(w, REWRITES, ROW * usize::from(r) + 1 + usize::from(k))
 }
 
 pub fn set_no_rewrites(w: &mut [u16; WORDS])
@@ -54,28 +86,24 @@ fn reach(w: &mut [u16; WORDS], r: u16)
     requires { r < limits.most_regions }
     ensures { w.new ≡ tables.reached w.old r }
 {
-    let mut q = entries(w);
-    if r < q {
-        return;
+    let set = entries(w);
+    if set <= r {
+        let none = u16::from(RewriteKind::NotRewritten);
+        for q in set..r {
+            put(w, REWRITES, ROW * usize::from(q), none);
+        }
+        put(w, REWRITES, ENTRIES, r + 1);
     }
-    while q < r {
-        put(w, REWRITES, ROW * (q as usize), NONE);
-        q += 1;
-    }
-    put(w, REWRITES, ENTRIES, r + 1);
 }
 
-pub fn insert_rewrites(w: &mut [u16; WORDS], r: u16, kind: u16, vs: &[u16; 4])
-    ensures { w.new ≡ tables.inserted w.old r kind vs.now }
+#[tactic(auto, unfolding(crate::specs::NodeTables::inserted))]
+pub fn insert_rewrites(w: &mut [u16; WORDS], r: u16, kind: RewriteKind, vs: &[u16; 4])
+    ensures { w.new ≡ tables.inserted w.old r (kinds.rewrite_kind_word kind) vs.now }
 {
-    if r >= MOST_REGIONS {
-        return;
+    if r < MOST_REGIONS && rewrite_kind(w, r) == RewriteKind::NotRewritten {
+        reach(w, r);
+        let at = ROW * usize::from(r);
+        put(w, REWRITES, at, u16::from(kind));
+        put_all(w, REWRITES, at + 1, vs);
     }
-    if rewrite_kind(w, r) != NONE {
-        return;
-    }
-    reach(w, r);
-    let at = ROW * (r as usize);
-    put(w, REWRITES, at, kind);
-    put_all(w, REWRITES, at + 1, vs);
 }

@@ -1,1 +1,2 @@
 pub mod RegionTables
+pub mod laws

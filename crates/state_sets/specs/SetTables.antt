@@ -1,7 +1,8 @@
 -- What a step does to bundles and their sets.
-use Rattle.std.specs.Prelude.{List, [], ◌∷◌, ℕ, zero, suc, ◌+◌, ◌*◌, ◌-◌, ltb, eqb}
+use Rattle.std.specs.Prelude.{◌≡◌, Option, None, Some, List, [], ◌∷◌, ℕ, zero, suc, ◌+◌, ◌*◌, ◌-◌, ltb, eqb}
 use Rattle.state_words.specs.Sections.{word, stored, stored_all, bundles, set_starts, set_lengths}
 use Rattle.meaning.specs.Lists.{pick}
+use Rattle.state_words.specs.declared.bundle_numbers.BundleNumber.{BundleNumber}
 use Rattle.state_words.specs.Rows.{bundle_input, bundle_input_at, bundle_row_at, bundle_target, bundle_word}
 use Rattle.state_words.specs.Rows.{most_bundles}
 use Rattle.state_words.specs.Rows.{no_bundle_word, own_edges_from}
@@ -36,6 +37,16 @@ swapped l a b = stored (stored l set_starts a (word l set_starts b)) set_starts 
 unfoldable pub find_by : List ℕ → ℕ → ℕ → ℕ → ℕ → ℕ
 find_by l start t zero i = no_bundle_word
 find_by l start t (suc n) i = pick (eqb (bundle_target l (bundle_at start i)) t) (bundle_at start i) (find_by l start t n (suc i))
+
+-- What a search answered, as a number.
+abbrev pub number_of : Option BundleNumber → ℕ
+number_of None = no_bundle_word
+number_of (Some b) = b.0
+
+-- A bundle that was found has a number of its own.
+abbrev pub Numbered : Option BundleNumber → Type 0
+Numbered None = Unit
+Numbered (Some b) = b.0 ≡ no_bundle_word → ⊥
 
 -- ---- A bundle leaves its set: the last takes its place, or those behind it move up.
 abbrev pub bundle_copied : List ℕ → ℕ → ℕ → List ℕ

@@ -9,8 +9,8 @@ use Rattle.nesting.specs.Nesting.{LazyCond, undef_cond, false_cond, true_cond, m
 use Rattle.nesting.specs.Nesting.{replace_by, RegionInputRewrites, replace_with, renumber_or_replace_with, RewriteEntry, NodeOutput}
 use Rattle.nesting.specs.Nesting.{NestState, StepAnswer, done, turned_away, rewrites_of, most_regions, most_nodes, most_merges}
 use Rattle.nesting.specs.Nesting.{most_outputs}
-use Rattle.state_words.specs.declared.defined.Defined.{Defined}
-use Rattle.state_words.specs.declared.defined.Defined.TheVariants.{Number, Full}
+use Rattle.std.specs.Prelude.{Ok}
+use Rattle.state_words.specs.Totals.{Defined, Full}
 use Rattle.state_words.specs.Sections.{section, word, head, rewrites, outputs, used}
 use Rattle.state_nodes.specs.NodeTables.{entry_kind}
 use Rattle.state_words.specs.Values.{is_held}
@@ -123,7 +123,7 @@ pub record ShowsTables (w : List ℕ) (s : NestState) : Type 0 where
 
 -- What a step of the code answers, and its words, show what the definition's step gives: a number that shows its value, or refusal 9.
 pub data ShowsDefined {A : Type 0} (R : ℕ → A → Type 0) (w : List ℕ) : Defined → StepAnswer A → Type 0 where
-  shows_done : {x : ℕ} {a : A} {s : NestState} → R x a → ShowsTables w s → ShowsDefined R w (Number x) (done a s)
+  shows_done : {x : ℕ} {a : A} {s : NestState} → R x a → ShowsTables w s → ShowsDefined R w (Ok x) (done a s)
   shows_full : ShowsDefined R w Full (turned_away too_many 0)
 
 -- Taken apart by what the code answered.

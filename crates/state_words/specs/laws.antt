@@ -1,3 +1,4 @@
 pub mod Stored
 pub mod Apart
 pub mod Edges
+pub mod Filled

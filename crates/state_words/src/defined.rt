@@ -4,9 +4,10 @@ ghost use Rattle.nesting.specs.Nesting as limits;
 ghost use Rattle.state_words.specs.Sections as sections;
 ghost use Rattle.state_words.specs.Totals as totals;
 ghost use Rattle.state_words.specs.Rows as rows;
+ghost use Rattle.store.specs.declared.refusals.Refusal.TheVariants as refusal;
 
 use crate::sections::{HEAD, get, put, put_all};
-use store::WORDS;
+use store::{Refusal, WORDS};
 
 pub const REGIONS: usize = 0;
 
@@ -37,18 +38,16 @@ pub const MOST_MERGES: u16 = 512;
 
 pub const MOST_OUTPUTS: u16 = 512;
 
-// What a definition answers: its number, or refusal 9.
-#[derive(Clone, Copy)]
-pub enum Defined {
-    Number(u16),
-    Full,
-}
+// A table is full: refusal 9.
+#[derive(Clone, Copy, PartialEq, Eq, Debug)]
+pub struct TooMany;
 
-// What a step answers that makes no number: done, or refusal 9.
-#[derive(Clone, Copy)]
-pub enum Made {
-    Done,
-    Full,
+impl From<TooMany> for Refusal {
+    ghost from_gives = { λ _ why. why ≡ refusal.TooMany };
+
+    fn from(_full: TooMany) -> Refusal {
+        Refusal::TooMany
+    }
 }
 
 pub fn head(w: &[u16; WORDS], i: usize) -> u16
@@ -82,25 +81,25 @@ pub fn set_first_totals(w: &mut [u16; WORDS], regions: u16, nodes: u16)
 }
 
 // One more of what the head counts at i, within its limit.
-fn define(w: &mut [u16; WORDS], i: usize, limit: u16) -> Defined
+fn define(w: &mut [u16; WORDS], i: usize, limit: u16) -> Result<u16, TooMany>
     requires { i ≤ 65535 }
     ensures { totals.Defines i limit w.old w.new result }
 {
     let n = head(w, i);
     if n < limit {
         set_head(w, i, n + 1);
-        return Defined::Number(n);
+        return Ok(n);
     }
-    Defined::Full
+    Err(TooMany)
 }
 
-pub fn define_node(w: &mut [u16; WORDS]) -> Defined
+pub fn define_node(w: &mut [u16; WORDS]) -> Result<u16, TooMany>
     ensures { totals.Defines rows.nodes_at limits.most_nodes w.old w.new result }
 {
     define(w, NODES, MOST_NODES)
 }
 
-pub fn define_region(w: &mut [u16; WORDS]) -> Defined
+pub fn define_region(w: &mut [u16; WORDS]) -> Result<u16, TooMany>
     ensures { totals.Defines rows.regions_at limits.most_regions w.old w.new result }
 {
     define(w, REGIONS, MOST_REGIONS)

@@ -1,9 +1,9 @@
 // Counts of edges. Wherever edges are added, it is by this addition.
-ghost use Rattle.std.specs.Prelude.{◌≡◌, ◌+◌, ◌≤◌, min, eqb};
+ghost use Rattle.std.specs.Prelude.{◌≡◌, ◌+◌, ◌≤◌, min};
 ghost use Rattle.state_words.specs.Totals as totals;
 
 // A number of edges. It counts edges only and is never an index.
-#[derive(Clone, Copy)]
+#[derive(Clone, Copy, PartialEq, Eq)]
 pub struct IncomingEdgeCount(pub u32);
 
 pub const ONE: IncomingEdgeCount = IncomingEdgeCount(1);
@@ -19,31 +19,21 @@ impl IncomingEdgeCount {
     pub fn plus(self, other: IncomingEdgeCount) -> Self
         ensures { result.0 ≡ min (self.0 + other.0) 4294967295 }
     {
-        if self.0 <= 4294967295 - other.0 {
-            return IncomingEdgeCount(self.0 + other.0);
-        }
-        IncomingEdgeCount(4294967295)
-    }
-
-    pub fn same(self, other: IncomingEdgeCount) -> bool
-        ensures { result ≡ eqb self.0 other.0 }
-    {
-        self.0 == other.0
+        IncomingEdgeCount(self.0.saturating_add(other.0))
     }
 
     // As the state keeps it, in a word of 16 bits: a count beyond is the largest word.
     pub fn to_word(self) -> u16
         ensures { result ≡ totals.edges_word self.0 }
     {
-        if self.0 < 65535 {
-            return self.0 as u16;
-        }
-        65535
+        self.0.min(65535) as u16
     }
+}
 
-    pub fn of_word(n: u16) -> Self
+impl From<u16> for IncomingEdgeCount {
+    fn from(n: u16) -> Self
         ensures { (result.0 ≡ n) × (result.0 ≤ 65535) }
     {
-        IncomingEdgeCount(n as u32)
+        IncomingEdgeCount(u32::from(n))
     }
 }

@@ -2,8 +2,8 @@
 ghost use Rattle.std.specs.Prelude.{◌≡◌, ◌+◌, ◌≤◌, length};
 ghost use Rattle.state_words.specs.Sections as sections;
 
+use store::WORDS;
 use store::layout::INDEX_END;
-use store::{WORDS, tells_length};
 
 // Where a section begins, and how many words it has.
 #[derive(Clone, Copy)]
@@ -95,38 +95,33 @@ pub const BUNDLES: Section = Section {
     words: 7679,
 };
 
+#[tactic(auto, using(crate::specs::laws::Stored::read_in, crate::specs::laws::Stored::read_beyond))]
 pub fn get(w: &[u16; WORDS], section: Section, i: usize) -> u16
     requires { section.from + section.words ≤ sections.used }
     ensures { result ≡ sections.read_at section.from section.words w.now i }
 {
-    tells_length(w);
     let from = section.from;
-    if i < section.words {
-        return w[from + i];
-    }
-    0
+    if i < section.words { w[from + i] } else { 0 }
 }
 
+#[tactic(auto, using(crate::specs::laws::Stored::stored_in, crate::specs::laws::Stored::stored_beyond))]
 pub fn put(w: &mut [u16; WORDS], section: Section, i: usize, x: u16)
     requires { section.from + section.words ≤ sections.used }
     ensures { w.new ≡ sections.stored_at section.from section.words w.old i x }
 {
-    tells_length(w);
     let from = section.from;
     if i < section.words {
         w[from + i] = x;
-        return;
     }
 }
 
 // Words from i on.
+#[tactic(auto, using(crate::specs::laws::Stored::run_turn, crate::specs::laws::Stored::run_stop))]
 pub fn put_all(w: &mut [u16; WORDS], section: Section, i: usize, xs: &[u16])
     requires { (section.from + section.words ≤ sections.used) × (i ≤ 1000000) × (length xs.now ≤ 8) }
     ensures { w.new ≡ sections.stored_all_at section.from section.words w.old i xs.now }
 {
-    let mut j: usize = 0;
-    while j < xs.len() {
-        put(w, section, i + j, xs[j]);
-        j += 1;
+    for (j, x) in xs.iter().enumerate() {
+        put(w, section, i + j, *x);
     }
 }

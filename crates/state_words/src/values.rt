@@ -1,9 +1,11 @@
-// A value as one word, by ranges: constants, booleans, undefined, outputs, inputs, marked inputs, instructions.
+// A value as one word, by ranges: constants, booleans, undefined, outputs, inputs, marked inputs, instructions. It stays a number: most of a
+// word is an index, words are compared as they are, and `parts_of` alone takes one apart.
 ghost use Rattle.std.specs.Prelude.{◌≡◌, ◌≤◌, ltb};
 ghost use Rattle.state_words.specs.Values as words;
 
 use crate::defined::{MOST_OUTPUTS, MOST_REGIONS};
 use fields::Value;
+use reading::kinds::{BOOL_KIND, CONST_KIND, INPUT_KIND, INSTR_KIND, OUTPUT_KIND, UNDEF_KIND};
 
 pub const FALSE: u16 = 64;
 
@@ -25,53 +27,48 @@ const INPUTS: u16 = 4 * MOST_REGIONS;
 // What names nothing.
 pub const NOTHING: u16 = 4096;
 
+#[tactic(auto, unfolding(crate::specs::Values::const_word))]
 pub fn constant(i: u16) -> u16
     ensures { result ≡ words.const_word i }
 {
-    if i < 64 {
-        return i;
-    }
-    NOTHING
+    if i < 64 { i } else { NOTHING }
 }
 
 pub fn boolean(b: bool) -> u16
     ensures { result ≡ words.bool_word b }
 {
-    if b {
-        return TRUE;
-    }
-    FALSE
+    if b { TRUE } else { FALSE }
 }
 
+#[tactic(auto, unfolding(crate::specs::Values::undef_word))]
 pub fn undef(ty: u16) -> u16
     ensures { result ≡ words.undef_word ty }
 {
-    if ty < 256 {
-        return UNDEF + ty;
-    }
-    NOTHING
+    if ty < 256 { UNDEF + ty } else { NOTHING }
 }
 
+#[tactic(auto, unfolding(crate::specs::Values::output_word))]
 pub fn output(o: u16) -> u16
     ensures { result ≡ words.output_word o }
 {
     if o < MOST_OUTPUTS {
-        return OUTPUT + o;
+        OUTPUT + o
+    } else {
+        NOTHING
     }
-    NOTHING
 }
 
 // Four from `base` on for each region.
+#[tactic(auto, unfolding(crate::specs::Values::region_word))]
 fn of_region(base: u16, r: u16, k: u16) -> u16
     requires { base ≤ 2048 }
     ensures { result ≡ words.region_word base r k }
 {
-    if r < MOST_REGIONS {
-        if k < 4 {
-            return base + 4 * r + k;
-        }
+    if r < MOST_REGIONS && k < 4 {
+        base + 4 * r + k
+    } else {
+        NOTHING
     }
-    NOTHING
 }
 
 pub fn input(r: u16, k: u16) -> u16
@@ -87,15 +84,15 @@ pub fn held(r: u16, k: u16) -> u16
     of_region(HELD, r, k)
 }
 
+#[tactic(auto, unfolding(crate::specs::Values::instr_word))]
 pub fn instr(r: u16, k: u16) -> u16
     ensures { result ≡ words.instr_word r k }
 {
-    if r < 32 {
-        if k < 64 {
-            return INSTR + 64 * r + k;
-        }
+    if r < 32 && k < 64 {
+        INSTR + 64 * r + k
+    } else {
+        NOTHING
     }
-    NOTHING
 }
 
 // The word of a record's value.
@@ -112,18 +109,12 @@ pub fn value_word(v: Value) -> u16
     }
 }
 
-// A value taken apart: kinds 0 to 5 of document 01; a marked input is an input. `of` is a region, 0 where there is none.
+// A value taken apart. A marked input is an input. `of` is a region, 0 where there is none.
 #[derive(Clone, Copy)]
 pub struct Parts {
     pub kind: u16,
     pub of: u16,
     pub index: u16,
-}
-
-fn shown(kind: u16, of: u16, index: u16) -> Parts
-    ensures { result ≡ words.parts kind of index }
-{
-    Parts { kind, of, index }
 }
 
 pub fn is_const(v: u16) -> bool
@@ -132,22 +123,18 @@ pub fn is_const(v: u16) -> bool
     v < OUTPUT
 }
 
+#[tactic(auto, unfolding(crate::specs::Values::is_input))]
 pub fn is_input(v: u16) -> bool
     ensures { result ≡ words.is_input v }
 {
-    if v < INPUT {
-        return false;
-    }
-    v < HELD
+    INPUT <= v && v < HELD
 }
 
+#[tactic(auto, unfolding(crate::specs::Values::is_held))]
 pub fn is_held(v: u16) -> bool
     ensures { result ≡ words.is_held v }
 {
-    if v < HELD {
-        return false;
-    }
-    v < INSTR
+    HELD <= v && v < INSTR
 }
 
 // The region and the index of an input, marked or not.
@@ -163,26 +150,18 @@ pub fn input_index(v: u16) -> u16
     v % 4
 }
 
+#[tactic(auto, unfolding(crate::specs::Values::parts_of))]
 pub fn parts_of(v: u16) -> Parts
     ensures { result ≡ words.parts_of v }
 {
-    if v < FALSE {
-        return shown(0, 0, v);
-    }
-    if v < UNDEF {
-        return shown(4, 0, v - FALSE);
-    }
-    if v < OUTPUT {
-        return shown(5, 0, v - UNDEF);
-    }
-    if v < INPUT {
-        return shown(3, 0, v - OUTPUT);
-    }
-    if v < INSTR {
-        return shown(1, input_region(v), input_index(v));
-    }
-    if v < NOTHING {
-        return shown(2, (v - INSTR) / 64, v % 64);
-    }
-    shown(5, 0, 0)
+    let (kind, of, index) = match v {
+        ..FALSE => (CONST_KIND, 0, v),
+        FALSE..UNDEF => (BOOL_KIND, 0, v - FALSE),
+        UNDEF..OUTPUT => (UNDEF_KIND, 0, v - UNDEF),
+        OUTPUT..INPUT => (OUTPUT_KIND, 0, v - OUTPUT),
+        INPUT..INSTR => (INPUT_KIND, input_region(v), input_index(v)),
+        INSTR..NOTHING => (INSTR_KIND, (v - INSTR) / 64, v % 64),
+        _ => (UNDEF_KIND, 0, 0),
+    };
+    Parts { kind, of, index }
 }

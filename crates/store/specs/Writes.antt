@@ -1,24 +1,17 @@
 -- What writing the record back answers, and what the lent bytes hold then (document 02, request 13).
-use Rattle.std.specs.Prelude.{◌≡◌, List, ◌++◌, ℕ, ◌*◌, length, get_or, take, drop}
+use Rattle.std.specs.Prelude.{◌≡◌, List, ◌++◌, ℕ, ◌*◌, length, get_or, take, drop, Result}
 use Rattle.std.proofs.lemmas.List.Edits.{sets}
-use Rattle.format.specs.Store.{Answer, accepted, two_bytes, payload, check_from, block_of_words, blocks_of_words, written}
-use Rattle.store.specs.Loaded.{words_counted, words_after}
-use Rattle.store.specs.Refusals.{refused_as}
-use Rattle.store.specs.declared.write.StoreWritten.{StoreWritten}
-use Rattle.store.specs.declared.write.StoreWritten.TheVariants.{Bytes, Refused}
+use Rattle.format.specs.Store.{two_bytes, payload, check_from, block_of_words, blocks_of_words, written}
+use Rattle.store.specs.Loaded.{answered, words_counted, words_after}
+use Rattle.store.specs.declared.refusals.Refusal.{Refusal}
 
 -- The words of the record that stands in front of the lent words: W of them, which is word 0.
 abbrev pub words_of : List ℕ → List ℕ
 words_of w = take (get_or w 0 0) w
 
--- Document 01's number and word of each refusal, or how many bytes were written.
-abbrev pub write_answered : StoreWritten → Answer ℕ
-write_answered (Bytes n) = accepted n
-write_answered (Refused why) = refused_as why
-
 -- The store stands in front of the lent bytes; a refusal leaves these as lent.
-pub record WritesStore (w out out' : List ℕ) (a : StoreWritten) : Type 0 where
-  pub answer : write_answered a ≡ words_counted (written (words_of w) (length out))
+pub record WritesStore (w out out' : List ℕ) (a : Result ℕ Refusal) : Type 0 where
+  pub answer : answered a ≡ words_counted (written (words_of w) (length out))
   pub bytes : out' ≡ words_after out (written (words_of w) (length out))
 
 -- The first n of a block's words, as bytes from a place on, and the check so far, with the block's number in front.

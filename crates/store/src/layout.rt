@@ -4,7 +4,7 @@ ghost use Rattle.std.specs.Prelude.{◌≡◌, get_or};
 // How many words are lent: as many as the sections of nesting have, made even. This number stands in this line alone.
 pub const WORDS: usize = 26942;
 
-// A place that is none of theirs.
+// A place that is none of theirs: a number and no None, for a place stands in the index as a word.
 pub const BEYOND: u16 = 65535;
 
 // Where the longest record ends, 16 blocks of 253 words, and the index begins.
@@ -24,16 +24,9 @@ pub const EXITS: usize = 2;
 
 pub const BLOCK_PLACES: usize = 3;
 
-// Tells its caller how long the array is: it lends the array as a slice, and compiles to nothing.
-pub fn tells_length(words: &[u16]) {}
-
 // The word at a place; beyond the lent words stands 0.
 pub fn word_at(w: &[u16; WORDS], p: usize) -> u16
     ensures { result ≡ get_or w.now p 0 }
 {
-    tells_length(w);
-    if p < WORDS {
-        return w[p];
-    }
-    0
+    if p < WORDS { w[p] } else { 0 }
 }

@@ -2,6 +2,7 @@
 ghost use Rattle.std.specs.Prelude.{◌≡◌};
 ghost use Rattle.store.specs.Refusals.{refusal_number, refusal_word};
 
+// The numbers stand by name, since interface/constants gives them to callers in C.
 pub const WRONG_LENGTH: u16 = 1;
 
 pub const WRONG_BLOCK_NUMBER: u16 = 2;
@@ -28,7 +29,7 @@ pub const FIGURE_TOO_LARGE: u16 = 11;
 pub const NEVER: u16 = 0;
 
 // 2 and 3 have the block, 5 to 8 the region.
-#[derive(Clone, Copy)]
+#[derive(Clone, Copy, Debug, PartialEq, Eq)]
 pub enum Refusal {
     WrongLength,
     WrongBlockNumber(u16),
@@ -68,16 +69,13 @@ pub fn word(why: Refusal) -> u16
 {
     match why {
         Refusal::WrongLength => 0,
-        Refusal::WrongBlockNumber(block) => block,
-        Refusal::WrongCheck(block) => block,
+        Refusal::WrongBlockNumber(block) | Refusal::WrongCheck(block) => block,
         Refusal::WrongWordCount => 0,
-        Refusal::OutOfRange(region) => region,
-        Refusal::WrongReference(region) => region,
-        Refusal::WrongType(region) => region,
-        Refusal::ExitNamedTwice(region) => region,
-        Refusal::TooMany => 0,
-        Refusal::TooFewWords => 0,
-        Refusal::FigureTooLarge => 0,
-        Refusal::Never(region) => region,
+        Refusal::OutOfRange(region)
+        | Refusal::WrongReference(region)
+        | Refusal::WrongType(region)
+        | Refusal::ExitNamedTwice(region)
+        | Refusal::Never(region) => region,
+        Refusal::TooMany | Refusal::TooFewWords | Refusal::FigureTooLarge => 0,
     }
 }

@@ -4,15 +4,8 @@ ghost use Rattle.std.proofs.lemmas.List.Edits.{sets};
 ghost use Rattle.format.specs.Store.{two_bytes, check_from};
 ghost use Rattle.store.specs.Writes.{WordsPut, with_block, WritesStore};
 
-use crate::layout::{RECORD_END, WORDS, tells_length, word_at};
+use crate::layout::{RECORD_END, WORDS, word_at};
 use crate::refusals::Refusal;
-
-// How many bytes were written, or the refusal.
-#[derive(Clone, Copy)]
-pub enum StoreWritten {
-    Bytes(u16),
-    Refused(Refusal),
-}
 
 // The number of the first block.
 const FIRST_NUMBER: usize = 0;
@@ -21,10 +14,7 @@ const FIRST_NUMBER: usize = 0;
 fn record_word(w: &[u16; WORDS], used: usize, p: usize) -> u16
     ensures { result ≡ get_or (take used w.now) p 0 }
 {
-    if p < used {
-        return word_at(w, p);
-    }
-    0
+    if p < used { word_at(w, p) } else { 0 }
 }
 
 // What a word adds to the check of a block in which it begins at a byte.
@@ -32,8 +22,8 @@ fn weight(word: u16, place: usize) -> u32
     requires { place < 507 }
     ensures { (result ≡ check_from place (two_bytes word)) × (result ≤ 259080) }
 {
-    let low = (word % 256) as u32;
-    let high = (word / 256) as u32;
+    let low = u32::from(word % 256);
+    let high = u32::from(word / 256);
     low * ((place + 1) as u32) + high * ((place + 2) as u32)
 }
 
@@ -42,8 +32,9 @@ fn put_pair(out: &mut [u8], at: usize, word: u16)
     requires { at + 1 < length out.old }
     ensures { out.new ≡ sets out.old at (two_bytes word) }
 {
-    out[at] = (word % 256) as u8;
-    out[at + 1] = (word / 256) as u8;
+    let [low, high] = word.to_le_bytes();
+    out[at] = low;
+    out[at + 1] = high;
 }
 
 // A block's 253 words; the check of the block, in which its number stands before them.
@@ -59,12 +50,10 @@ fn put_words(
     ensures { WordsPut 253 number (drop from (take used w.now)) at out.old out.new result }
 {
     let mut sum = weight(number, 0);
-    let mut j: usize = 0;
-    while j < 253 {
+    for j in 0..253 {
         let word = record_word(w, used, from + j);
         put_pair(out, at + 2 * j, word);
         sum += weight(word, 2 + 2 * j);
-        j += 1;
     }
     sum
 }
@@ -82,26 +71,20 @@ fn put_block(w: &[u16; WORDS], used: usize, b: usize, out: &mut [u8])
     put_pair(out, at + 510, (check / 65536) as u16);
 }
 
-// The store of the record, in front of the lent bytes, or its refusal with the bytes as lent.
-pub fn write_store(w: &[u16; WORDS], out: &mut [u8]) -> StoreWritten
+// How many bytes the store of the record has, which stands in front of the lent bytes; or its refusal, with the bytes as lent.
+pub fn write_store(w: &[u16; WORDS], out: &mut [u8]) -> Result<u16, Refusal>
     ensures { WritesStore w.now out.old out.new result }
 {
-    tells_length(w);
-    let used = word_at(w, 0) as usize;
-    if used == 0 {
-        return StoreWritten::Refused(Refusal::WrongWordCount);
-    }
-    if RECORD_END < used {
-        return StoreWritten::Refused(Refusal::WrongWordCount);
+    let used = usize::from(word_at(w, 0));
+    if used == 0 || RECORD_END < used {
+        return Err(Refusal::WrongWordCount);
     }
     let blocks = (used + 252) / 253;
     if out.len() < 512 * blocks {
-        return StoreWritten::Refused(Refusal::TooFewWords);
+        return Err(Refusal::TooFewWords);
     }
-    let mut b: usize = 0;
-    while b < blocks {
+    for b in 0..blocks {
         put_block(w, used, b, out);
-        b += 1;
     }
-    StoreWritten::Bytes((512 * blocks) as u16)
+    Ok((512 * blocks) as u16)
 }

@@ -1,4 +1,5 @@
-// Texts written into a lent buffer.
+// Texts written into a lent buffer: there is no heap for a String. Buffer and place are passed beside one another, here and in the crates
+// above: a struct that held the buffer would have to say in each contract that it still holds the same.
 #![tactic(auto)]
 
 ghost use Rattle.std.specs.Prelude.{◌≡◌, [], ◌∷◌, ◌++◌};
@@ -25,10 +26,8 @@ pub fn put_text(out: &mut [u8], at: usize, text: &[u8]) -> usize
     ensures { Wrote (buffer out.old at) text.now (buffer out.new result) }
 {
     let mut place = at;
-    let mut k: usize = 0;
-    while k < text.len() {
-        place = put_byte(out, place, text[k]);
-        k += 1;
+    for b in text {
+        place = put_byte(out, place, *b);
     }
     place
 }
@@ -38,10 +37,10 @@ pub fn put_number(out: &mut [u8], at: usize, n: u32) -> usize
     ensures { Wrote (buffer out.old at) (decimal n) (buffer out.new result) }
 {
     if n < 10 {
-        return put_byte(out, at, 48 + (n as u8));
+        return put_byte(out, at, b'0' + (n as u8));
     }
     let place = put_number(out, at, n / 10);
-    put_byte(out, place, 48 + ((n % 10) as u8))
+    put_byte(out, place, b'0' + ((n % 10) as u8))
 }
 
 // A label and a number.
@@ -52,25 +51,24 @@ pub fn put_labeled(out: &mut [u8], at: usize, label: &[u8], n: u32) -> usize
     put_number(out, place, n)
 }
 
-// How many bytes a text has, or that the buffer was too small and holds its front.
-#[derive(Clone, Copy)]
-pub enum Written {
-    Bytes(usize),
-    Full,
-}
+// The buffer was too small, and holds the text's front.
+#[derive(Clone, Copy, Debug, PartialEq, Eq)]
+pub struct BufferFull;
 
-// By the place behind a text that was written from the buffer's beginning on.
-pub fn finish(room: usize, place: usize) -> Written
+// How many bytes a text has, by the place behind it. It was written from the buffer's beginning on.
+pub fn finish(room: usize, place: usize) -> Result<usize, BufferFull>
     ensures { result ≡ written_to room place }
 {
     if place <= room {
-        return Written::Bytes(place);
+        Ok(place)
+    } else {
+        Err(BufferFull)
     }
-    Written::Full
 }
 
 // The line of a refusal, from the buffer's beginning on.
-pub fn refusal(number: u16, word: u16, out: &mut [u8]) -> Written
+// `as` widens here and in the crates above, which is proved; `u32::from` would add a step and a rewrite to each proof.
+pub fn refusal(number: u16, word: u16, out: &mut [u8]) -> Result<usize, BufferFull>
     ensures { Whole (refusal_text number word) out.old out.new result }
 {
     let mut place = put_labeled(out, 0, b"refused ", number as u32);

@@ -1,5 +1,5 @@
 -- Words read and text written, side by side: what the code's functions do.
-use Rattle.std.specs.Prelude.{◌≡◌, List, ℕ, ◌+◌, ◌≤◌, ◌<◌, length, drop, leb}
+use Rattle.std.specs.Prelude.{◌≡◌, List, ℕ, ◌+◌, ◌≤◌, ◌<◌, length, get_or, drop, leb}
 use Rattle.meaning.specs.Lists.{pick}
 use Rattle.meaning.specs.Text.{Text}
 use Rattle.text.specs.Buffer.{buffer, Wrote}
@@ -35,6 +35,13 @@ PutsWithin front r ws c before after d = (depth : ℕ) → length ws ≤ c.at + 
 pub record PutsOn (r : TextReader) (ws : List ℕ) (c : SheetCursor) (before after : List ℕ) (d : SheetCursor) : Type 0 where
   pub puts : PutsText r ws c before after d
   pub on : c.at < length ws → c.at < d.at
+
+-- Word w stands at a cursor, and d is behind it.
+pub record NextWord (ws : List ℕ) (c : SheetCursor) (w : ℕ) (d : SheetCursor) : Type 0 where
+  pub inside : c.at < length ws
+  pub word : w ≡ get_or ws c.at 0
+  pub at : d.at ≡ c.at + 1
+  pub place : d.place ≡ c.place
 
 -- Nothing to read there.
 pub record Stopped (ws : List ℕ) (c d : SheetCursor) : Type 0 where

@@ -1,10 +1,10 @@
-// Words read and text written, side by side.
-ghost use Rattle.std.specs.Prelude.{List, [], ◌∷◌, ℕ, get_or};
+// Words read and text written, side by side. Both are passed beside the cursor and not in it, as the crate `text` says of its buffers.
+ghost use Rattle.std.specs.Prelude.{◌≤◌, List, [], ◌∷◌, ℕ, length, get_or, MatchOption};
 ghost use Rattle.text.specs.Buffer.{buffer, Wrote};
 ghost use Rattle.nesting.specs.Sheet.{dotted};
 ghost use Rattle.nesting.specs.decoding.Lines.{value_texts};
 ghost use Rattle.text_cursor.specs.Texts.{say, number_text, value_text, skip_text, either_text};
-ghost use Rattle.text_cursor.specs.WordsToText.{PutsText, Stopped};
+ghost use Rattle.text_cursor.specs.WordsToText.{PutsText, NextWord, Stopped};
 
 use nesting::{BOOL_KIND, CONST_KIND, INPUT_KIND, INSTR_KIND, OUTPUT_KIND, UNDEF_KIND};
 use text::{put_byte, put_labeled, put_number, put_text};
@@ -16,50 +16,49 @@ pub struct SheetCursor {
     pub place: usize,
 }
 
+// The next word, and the cursor behind it.
+pub fn next_word(words: &[u32], c: SheetCursor) -> Option<(u32, SheetCursor)>
+    ensures { MatchOption result (length words.now ≤ c.at) (λ x. NextWord words.now c x.0 x.1) }
+{
+    let word = words.get(c.at)?;
+    Some((*word, SheetCursor { at: c.at + 1, ..c }))
+}
+
 // A word is missing, or is none that may stand there.
 pub fn stop(words: &[u32], c: SheetCursor) -> SheetCursor
     ensures { Stopped words.now c result }
 {
-    let at = c.at;
-    if at <= words.len() {
-        return SheetCursor {
-            at: words.len() + 1,
-            place: c.place,
-        };
+    SheetCursor {
+        at: c.at.max(words.len() + 1),
+        ..c
     }
-    c
 }
 
 pub fn say(text: &mut [u8], c: SheetCursor, label: &[u8]) -> SheetCursor
     ensures { (ws : List ℕ) → PutsText (say label.now) ws c text.old text.new result }
 {
     let place = put_text(text, c.place, label);
-    SheetCursor { at: c.at, place }
+    SheetCursor { place, ..c }
 }
 
 pub fn number(words: &[u32], text: &mut [u8], c: SheetCursor) -> SheetCursor
     ensures { PutsText number_text words.now c text.old text.new result }
 {
-    let at = c.at;
-    if words.len() <= at {
+    let Some((word, next)) = next_word(words, c) else {
         return stop(words, c);
-    }
-    let place = put_number(text, c.place, words[at]);
-    SheetCursor { at: at + 1, place }
+    };
+    let place = put_number(text, next.place, word);
+    SheetCursor { place, ..next }
 }
 
 // A word for which nothing is shown.
 pub fn skip(words: &[u32], c: SheetCursor) -> SheetCursor
     ensures { (bytes : List ℕ) → PutsText skip_text words.now c bytes bytes result }
 {
-    let at = c.at;
-    if words.len() <= at {
+    let Some((_, next)) = next_word(words, c) else {
         return stop(words, c);
-    }
-    SheetCursor {
-        at: at + 1,
-        place: c.place,
-    }
+    };
+    next
 }
 
 // A word that is 0 or 1, by a text for each.
@@ -73,21 +72,14 @@ pub fn either(
     ensures { PutsText (either_text zero.now one.now)
         words.now c text.old text.new result }
 {
-    let at = c.at;
-    if words.len() <= at {
+    let Some((word, next)) = next_word(words, c) else {
         return stop(words, c);
-    }
-    let next = SheetCursor {
-        at: at + 1,
-        place: c.place,
     };
-    if words[at] == 0 {
-        return say(text, next, zero);
+    match word {
+        0 => say(text, next, zero),
+        1 => say(text, next, one),
+        _ => stop(words, c),
     }
-    if words[at] == 1 {
-        return say(text, next, one);
-    }
-    stop(words, c)
 }
 
 // A region, or a node, and an index.
@@ -107,12 +99,8 @@ fn put_value(text: &mut [u8], at: usize, kind: u32, r: u32, k: u32) -> usize
         INPUT_KIND => put_dotted(text, at, b'i', r, k),
         INSTR_KIND => put_dotted(text, at, b'd', r, k),
         OUTPUT_KIND => put_dotted(text, at, b'n', r, k),
-        BOOL_KIND => {
-            if k == 1 {
-                return put_text(text, at, b"true");
-            }
-            put_text(text, at, b"false")
-        }
+        BOOL_KIND if k == 1 => put_text(text, at, b"true"),
+        BOOL_KIND => put_text(text, at, b"false"),
         UNDEF_KIND => put_labeled(text, at, b"undef", k),
         _ => at,
     }
@@ -122,13 +110,15 @@ fn put_value(text: &mut [u8], at: usize, kind: u32, r: u32, k: u32) -> usize
 pub fn value(words: &[u32], text: &mut [u8], c: SheetCursor) -> SheetCursor
     ensures { PutsText value_text words.now c text.old text.new result }
 {
-    let at = c.at;
-    if words.len() < 3 {
+    let Some(rest) = words.get(c.at..) else {
         return stop(words, c);
-    }
-    if words.len() - 3 < at {
+    };
+    let [kind, region, index, ..] = rest else {
         return stop(words, c);
+    };
+    let place = put_value(text, c.place, *kind, *region, *index);
+    SheetCursor {
+        at: c.at + 3,
+        place,
     }
-    let place = put_value(text, c.place, words[at], words[at + 1], words[at + 2]);
-    SheetCursor { at: at + 3, place }
 }

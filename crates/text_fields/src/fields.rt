@@ -8,8 +8,9 @@ ghost use Rattle.text_cursor.specs.Texts.{plain_text};
 ghost use Rattle.text_cursor.specs.WordsToText.{PutsText, PutsWithin};
 
 use nesting::{LETTER_F, LETTER_M, LETTER_T, LETTER_U};
-use text_cursor::cursor::{SheetCursor, number, say, skip, stop, value};
+use text_cursor::cursor::{SheetCursor, next_word, number, say, skip, stop, value};
 
+// What a field is. Lists hold fields and fields hold lists, so a closure for the field would have to hand itself on.
 #[derive(Clone, Copy)]
 pub enum Field {
     Number,
@@ -36,26 +37,17 @@ fn item_head(words: &[u32], text: &mut [u8], c: SheetCursor) -> SheetCursor
 fn is_merge(words: &[u32], c: SheetCursor) -> bool
     ensures { result ≡ eqb (get_or words.now c.at 0) letter_m }
 {
-    let at = c.at;
-    if words.len() <= at {
-        return false;
-    }
-    words[at] == LETTER_M
+    words.get(c.at) == Some(&LETTER_M)
 }
 
 // A condition without parts.
 fn plain_condition(words: &[u32], text: &mut [u8], c: SheetCursor) -> SheetCursor
     ensures { PutsText plain_text words.now c text.old text.new result }
 {
-    let at = c.at;
-    if words.len() <= at {
+    let Some((letter, next)) = next_word(words, c) else {
         return stop(words, c);
-    }
-    let next = SheetCursor {
-        at: at + 1,
-        place: c.place,
     };
-    match words[at] {
+    match letter {
         LETTER_T => say(text, next, b"t"),
         LETTER_F => say(text, next, b"f"),
         LETTER_U => say(text, next, b"u"),
@@ -88,9 +80,10 @@ fn put_field(words: &[u32], text: &mut [u8], c: SheetCursor, kind: Field) -> She
             if is_merge(words, c) {
                 let mut d = merge_head(words, text, c);
                 d = put_list(words, text, d, Field::Condition);
-                return say(text, d, b"]");
+                say(text, d, b"]")
+            } else {
+                plain_condition(words, text, c)
             }
-            plain_condition(words, text, c)
         }
     }
 }
@@ -110,27 +103,19 @@ fn none(text: &mut [u8], c: SheetCursor, kind: Field) -> SheetCursor
 fn put_list(words: &[u32], text: &mut [u8], c: SheetCursor, kind: Field) -> SheetCursor
     ensures { PutsWithin 1 (λ depth. list_within depth kind) words.now c text.old text.new result }
 {
-    let at = c.at;
-    if words.len() <= at {
+    let Some((n, first)) = next_word(words, c) else {
         return stop(words, c);
-    }
-    let n = words[at];
-    let mut d = SheetCursor {
-        at: at + 1,
-        place: c.place,
     };
     if n == 0 {
-        return none(text, d, kind);
+        return none(text, first, kind);
     }
-    d = put_field(words, text, d, kind);
-    let mut k: u32 = 1;
-    while k < n {
+    let mut d = put_field(words, text, first, kind);
+    for _k in 1..n {
         if words.len() < d.at {
             return d;
         }
         d = say(text, d, b",");
         d = put_field(words, text, d, kind);
-        k += 1;
     }
     d
 }

@@ -1,4 +1,4 @@
-// The lines of a sheet.
+// The lines of a sheet: each kind a function of its own, since its labels and fields in their order are its grammar.
 ghost use Rattle.nesting.specs.decoding.Decode.{decode_region, decode_block, decode_select, decode_loop, decode_exit, decode_defer};
 ghost use Rattle.nesting.specs.decoding.Decode.{line_by, decode_line};
 ghost use Rattle.text_cursor.specs.Lines.{shown, fields_text, line_text, decode_first, first_text, decoded_sheet_text};
@@ -9,7 +9,7 @@ use nesting::{
     LEAD_BLOCK, LEAD_DEFER, LEAD_EXIT, LEAD_LOOP, LEAD_REGION, LEAD_SELECT, OUTCOME_CLOSED,
     OUTCOME_LEFTOVER, OUTCOME_UNTOUCHED, OUTCOME_WHOLE, RETURN_WORD,
 };
-use text_cursor::cursor::{SheetCursor, either, number, say, skip, stop};
+use text_cursor::cursor::{SheetCursor, either, next_word, number, say, skip, stop};
 use text_fields::fields::{Field, labeled, listed};
 
 fn region(words: &[u32], text: &mut [u8], c: SheetCursor) -> SheetCursor
@@ -59,18 +59,14 @@ fn exit(words: &[u32], text: &mut [u8], c: SheetCursor) -> SheetCursor
 fn target(words: &[u32], text: &mut [u8], c: SheetCursor) -> SheetCursor
     ensures { PutsText target_text words.now c text.old text.new result }
 {
-    let at = c.at;
-    if words.len() <= at {
+    let Some((region, next)) = next_word(words, c) else {
         return stop(words, c);
+    };
+    if region == RETURN_WORD {
+        say(text, next, b"return")
+    } else {
+        number(words, text, c)
     }
-    if words[at] == RETURN_WORD {
-        let next = SheetCursor {
-            at: at + 1,
-            place: c.place,
-        };
-        return say(text, next, b"return");
-    }
-    number(words, text, c)
 }
 
 fn defer(words: &[u32], text: &mut [u8], c: SheetCursor) -> SheetCursor
@@ -102,15 +98,10 @@ fn line_by(words: &[u32], text: &mut [u8], c: SheetCursor, lead: u32) -> SheetCu
 pub fn put_line(words: &[u32], text: &mut [u8], c: SheetCursor) -> SheetCursor
     ensures { PutsOn (shown line_text decode_line) words.now c text.old text.new result }
 {
-    let at = c.at;
-    if words.len() <= at {
+    let Some((lead, next)) = next_word(words, c) else {
         return stop(words, c);
-    }
-    let next = SheetCursor {
-        at: at + 1,
-        place: c.place,
     };
-    let d = line_by(words, text, next, words[at]);
+    let d = line_by(words, text, next, lead);
     say(text, d, b"\n")
 }
 
@@ -126,15 +117,10 @@ fn unshown(words: &[u32], text: &mut [u8], c: SheetCursor, label: &[u8]) -> Shee
 fn outcome(words: &[u32], text: &mut [u8], c: SheetCursor) -> SheetCursor
     ensures { PutsText outcome_text words.now c text.old text.new result }
 {
-    let at = c.at;
-    if words.len() <= at {
+    let Some((outcome, next)) = next_word(words, c) else {
         return stop(words, c);
-    }
-    let next = SheetCursor {
-        at: at + 1,
-        place: c.place,
     };
-    match words[at] {
+    match outcome {
         OUTCOME_UNTOUCHED => unshown(words, text, next, b"untouched figure -"),
         OUTCOME_WHOLE => labeled(words, text, next, b"whole figure ", Field::Number),
         OUTCOME_CLOSED => labeled(words, text, next, b"closed figure ", Field::Number),
@@ -151,7 +137,7 @@ pub fn put_first_line(words: &[u32], text: &mut [u8], c: SheetCursor) -> SheetCu
     either(words, text, d, b" twice 0\n", b" twice 1\n")
 }
 
-// Line 1, then the other lines to the last word.
+// Line 1, then the other lines to the last word. Each turn goes on by as many words as its line has, so there is no range.
 pub fn put_sheet(words: &[u32], text: &mut [u8]) -> SheetCursor
     ensures { PutsText decoded_sheet_text
         words.now (record { at = 0; place = 0 }) text.old text.new result }

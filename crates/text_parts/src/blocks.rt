@@ -37,11 +37,9 @@ fn put_items(w: &[u16; WORDS], out: &mut [u8], at: usize, r: u16, b: u16, k: u32
         return put_byte(out, at, b'-');
     }
     let mut place = put_item(w, out, at, r, b, 0, k);
-    let mut i: u16 = 1;
-    while i < n {
+    for i in 1..n {
         place = put_byte(out, place, b',');
         place = put_item(w, out, place, r, b, i, k + (i as u32));
-        i += 1;
     }
     place
 }
@@ -63,11 +61,9 @@ pub fn put_blocks(w: &[u16; WORDS], out: &mut [u8], at: usize, r: u16) -> usize
     let n = fields::block_count(w, r);
     let mut place = at;
     let mut k: u32 = 0;
-    let mut b: u16 = 0;
-    while b < n {
+    for b in 0..n {
         place = put_block(w, out, place, r, b, k);
         k += fields::block_length(w, r, b) as u32;
-        b += 1;
     }
     place
 }

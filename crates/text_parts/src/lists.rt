@@ -11,6 +11,8 @@ use fields::Value;
 use store::WORDS;
 use text::{put_byte, put_labeled, put_number, put_text};
 
+// An enum says here and below which list is put: of a closure for its items the clause would have to tell each call's result.
+
 // A list of numbers that a record has; all but the constants' types belong to a region.
 #[derive(Clone, Copy)]
 pub enum Numbers {
@@ -51,10 +53,8 @@ pub fn put_numbers(w: &[u16; WORDS], out: &mut [u8], at: usize, l: Numbers) -> u
         return put_byte(out, at, b'-');
     }
     let mut place = put_number(out, at, number_item(w, l, 0) as u32);
-    let mut k: u16 = 1;
-    while k < n {
+    for k in 1..n {
         place = put_labeled(out, place, b",", number_item(w, l, k) as u32);
-        k += 1;
     }
     place
 }
@@ -132,11 +132,9 @@ pub fn put_values(w: &[u16; WORDS], out: &mut [u8], at: usize, l: Values) -> usi
         return put_byte(out, at, b'-');
     }
     let mut place = put_value(out, at, value_item(w, l, 0));
-    let mut k: u16 = 1;
-    while k < n {
+    for k in 1..n {
         place = put_byte(out, place, b',');
         place = put_value(out, place, value_item(w, l, k));
-        k += 1;
     }
     place
 }

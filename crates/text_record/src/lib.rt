@@ -10,7 +10,7 @@ mod regions;
 
 use regions::put_regions;
 use store::WORDS;
-use text::{Written, put_byte, put_labeled, put_text};
+use text::{BufferFull, put_byte, put_labeled, put_text};
 use text_parts::lists::{Numbers, put_numbers};
 
 fn put_head(w: &[u16; WORDS], out: &mut [u8], at: usize) -> usize
@@ -25,7 +25,7 @@ fn put_head(w: &[u16; WORDS], out: &mut [u8], at: usize) -> usize
 }
 
 // The record that stands in the words, from the buffer's beginning on.
-pub fn list(w: &[u16; WORDS], out: &mut [u8]) -> Written
+pub fn list(w: &[u16; WORDS], out: &mut [u8]) -> Result<usize, BufferFull>
     ensures { OfRecord w.now (λ g. Whole (listing_of g) out.old out.new result) }
 {
     let mut place = put_head(w, out, 0);

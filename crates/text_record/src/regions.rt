@@ -1,4 +1,4 @@
-// The lines of the regions.
+// The lines of the regions. What their lists hold differs in type (Numbers, Values), so each has its own function.
 ghost use Rattle.std.specs.Prelude.{◌++◌, get_or};
 ghost use Rattle.meaning.specs.Graph.{no_value, region, edges_of, targets_of};
 ghost use Rattle.meaning.specs.Text.{ascii};
@@ -91,10 +91,8 @@ fn put_passes(w: &[u16; WORDS], out: &mut [u8], at: usize, r: u16) -> usize
 {
     let n = fields::target_count(w, r);
     let mut place = at;
-    let mut j: u16 = 0;
-    while j < n {
+    for j in 0..n {
         place = put_pass_once(w, out, place, r, j);
-        j += 1;
     }
     place
 }
@@ -137,10 +135,8 @@ pub fn put_regions(w: &[u16; WORDS], out: &mut [u8], at: usize) -> usize
 {
     let n = fields::region_count(w);
     let mut place = at;
-    let mut r: u16 = 0;
-    while r < n {
+    for r in 0..n {
         place = put_region(w, out, place, r);
-        r += 1;
     }
     place
 }

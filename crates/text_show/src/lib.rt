@@ -3,17 +3,16 @@
 
 ghost use Rattle.text_show.specs.Shows.{Shows};
 
-use accept::Accepted;
 use store::WORDS;
-use text::Written;
+use store::refusals::{number, word};
+use text::BufferFull;
 
 // The refusal of a store, or its record, as text from the buffer's beginning on.
-pub fn show(bytes: &[u8], words: &mut [u16; WORDS], out: &mut [u8]) -> Written
+pub fn show(bytes: &[u8], words: &mut [u16; WORDS], out: &mut [u8]) -> Result<usize, BufferFull>
     ensures { Shows bytes.now words.old words.new out.old out.new result }
 {
-    let verdict = accept::accept(bytes, words);
-    match verdict {
-        Accepted::Record => text_record::list(words, out),
-        Accepted::Refused(number, word) => text::refusal(number, word, out),
+    match accept::accept(bytes, words) {
+        Ok(()) => text_record::list(words, out),
+        Err(why) => text::refusal(number(why), word(why), out),
     }
 }

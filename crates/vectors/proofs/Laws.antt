@@ -5,10 +5,13 @@ use mathlib.Core.List.{List, [], ◌∷◌, ◌++◌, append-nil}
 use Prim.Native.Nat.{ℕ, suc, ◌+◌, ◌-◌, ◌*◌, ◌≤◌, ◌<◌}
 use native.Mathlib.Numerals.{add-one}
 use native.Mathlib.Omega.{arith}
-use lib.ListN.{length, get_or, take, drop, set, length-take, length-drop, drop_of_length-le}
+use lib.ListN.{length, get_or, take, drop, set, length-take, length-drop}
 use lib.Seq.{drop-cons, take_all, take-suc-set, append_snoc}
 use lib.Dec.{eqb}
-use borrow.Author.Tests.{eq-eqb, ne_eqb, lt-ltb, le-ltb}
+use borrow.Author.Tests.{lt-ltb, le-ltb}
+use Rattle.std.specs.Prelude.{cond, Some, None}
+use Rattle.std.specs.List.{position, position_from}
+use Rattle.std.proofs.lemmas.Iterator.Adapters.{position_from-zero}
 use Rattle.vectors.specs.Parts.{behind, hex_byte, hex_bytes, line_and_answer, listed_store, answer_of}
 use Rattle.vectors.specs.declared.VectorReader.{VectorReader}
 use Rattle.vectors.specs.Reading.{Reading, kept_text, ends_at, read_byte, read_bytes, reading_of, counted_of, KeptSoFar, Reads}
@@ -23,28 +26,35 @@ behind_within b (x ∷ xs) = by_test (eqb x b) (behind_within b xs)
     by_test true h = omega arith
     by_test false h = omega arith
 
--- the first i bytes are passed
-module _ (b : ℕ) (l : List ℕ) (i : ℕ) (passed : behind b l ≡ i + behind b (drop i l)) where
-  next : i < length l → behind b (drop i l) ≡ behind b (get_or l i 0 ∷ drop (suc i) l)
-  next h = ap (behind b) (drop-cons l i 0 h)
-
-  pub found_here : i < length l → get_or l i 0 ≡ b → i + 1 ≡ behind b l
+-- by the place of the first b, of a list whose first place is i
+module _ (b : ℕ) where
+  behind_at : (i : ℕ) (l : List ℕ) (k : ℕ) → position_from (λ x. eqb x b) i l ≡ Some k → k + 1 ≡ i + behind b l
   unfolding behind
-  found_here h e =
-      let one : behind b (drop i l) ≡ 1 = next h ∙ rw (behind, eq-eqb (get_or l i 0) b e) in
-      omega arith
+  behind_at i [] k h = cc
+  behind_at i (x ∷ xs) k h = by_test (eqb x b) h (behind_at (i + 1) xs k)
+    where
+      by_test : (t : Bool) → cond t (Some i) (position_from (λ x. eqb x b) (i + 1) xs) ≡ Some k
+          → (position_from (λ x. eqb x b) (i + 1) xs ≡ Some k → k + 1 ≡ i + 1 + behind b xs)
+          → k + 1 ≡ i + elim t [ true ↦ 1 | false ↦ suc (behind b xs) ]
+      by_test true h later = let here : i ≡ k = cc in omega arith
+      by_test false h later = let there = later h in omega arith
 
-  pub found_later : i < length l → (get_or l i 0 ≡ b → ⊥) → behind b l ≡ i + 1 + behind b (drop (i + 1) l)
+  behind_all : (i : ℕ) (l : List ℕ) → position_from (λ x. eqb x b) i l ≡ None → length l ≡ behind b l
   unfolding behind
-  found_later h e =
-      let on : behind b (drop i l) ≡ suc (behind b (drop (suc i) l)) = next h ∙ rw (behind, ne_eqb (get_or l i 0) b e) in
-      rw add-one (omega arith)
+  behind_all i [] h = refl
+  behind_all i (x ∷ xs) h = by_test (eqb x b) h (behind_all (i + 1) xs)
+    where
+      by_test : (t : Bool) → cond t (Some i) (position_from (λ x. eqb x b) (i + 1) xs) ≡ None
+          → (position_from (λ x. eqb x b) (i + 1) xs ≡ None → length xs ≡ behind b xs)
+          → suc (length xs) ≡ elim t [ true ↦ 1 | false ↦ suc (behind b xs) ]
+      by_test true h later = cc
+      by_test false h later = ap suc (later h)
 
-  pub found_none : length l ≤ i → i ≡ behind b l
-  unfolding behind
-  found_none h =
-      let none : behind b (drop i l) ≡ 0 = ap (behind b) (drop_of_length-le l h) in
-      omega arith
+  pub behind_some : (l : List ℕ) (k : ℕ) → position (λ x. eqb x b) l ≡ Some k → k + 1 ≡ behind b l
+  behind_some l k h = let there = behind_at 0 l k (sym (position_from-zero (λ x. eqb x b) l) ∙ h) in omega arith
+
+  pub behind_none : (l : List ℕ) → position (λ x. eqb x b) l ≡ None → length l ≡ behind b l
+  behind_none l h = behind_all 0 l (sym (position_from-zero (λ x. eqb x b) l) ∙ h)
 
 -- ---- the line and the answer
 -- &l[n..]

@@ -1,25 +1,22 @@
--- The store is refused, or the verdict on its record is the answer.
-use mathlib.Core.Path.{sym, ap, ◌∙◌}
+-- The store is refused, reading is, or the references decide.
 use native.Mathlib.Omega.{arith}
-use Rattle.store.specs.Loaded.{answered}
+use Rattle.std.proofs.lemmas.Result.{err_from_is_err_and}
+use Rattle.accept.specs.laws.Judging.{unread, by_references}
 use Rattle.accept.specs.laws.AcceptSteps.{store_refused, record_judged}
 use Rattle.accept.proofs.accept.Goals as goal
 
-pub returns-in-Refused : goal.returns-in-Refused
-returns-in-Refused c =
-    store_refused _ _ _ c.refused.ensures
-    (rw c.in-Refused.is at c.load-loaded.ensures)
+pub returns-in_err-load : goal.returns-in_err-load
+returns-in_err-load c =
+    let p = err_from_is_err_and c.from_residual.result c.from_residual.ensures.1 in
+    rw (p.1, p.2) (store_refused _ _ _ (rw c.in_err-load.was at c.load.ensures))
 
-pub returns-in-Right : goal.returns-in-Right
-returns-in-Right c =
-    let size = c.tells_length-arg-2-1.given in
-    let words = rw c.in_default.is at c.load-loaded.ensures in
-    let checked = c.read_and_checked.ensures in
-    record_judged _ _ _ (omega arith) words _ (sym (ap answered c.in-Right.is)) checked
+pub returns-in_err-read_record : goal.returns-in_err-read_record
+returns-in_err-read_record c =
+    let p = err_from_is_err_and c.from_residual-in_err-read_record.result c.from_residual-in_err-read_record.ensures.1 in
+    rw (p.1, p.2)
+    (record_judged _ _ _ (omega arith) (rw c.in_ok-load.was at c.load.ensures) _ (unread c.read_record.ensures c.in_err-read_record.was))
 
-pub returns-in-Refused-read_and_checked : goal.returns-in-Refused-read_and_checked
-returns-in-Refused-read_and_checked c =
-    let size = c.tells_length-arg-2-1.given in
-    let words = rw c.in_default.is at c.load-loaded.ensures in
-    let checked = c.read_and_checked.ensures in
-    record_judged _ _ _ (omega arith) words _ (c.refused-in-Refused-read_and_checked.ensures ∙ sym (ap answered c.in-Refused-read_and_checked.is)) checked
+pub returns : goal.returns
+returns c =
+    record_judged _ _ _ (omega arith) (rw c.in_ok-load.was at c.load.ensures) _
+    (by_references c.read_record.ensures c.in_ok-read_record.was c.references.ensures)

@@ -1,5 +1,5 @@
 -- The verdict of reading and references, by the answers that the code has.
-use Rattle.std.specs.Prelude.{◌≡◌, refl, List, ℕ}
+use Rattle.std.specs.Prelude.{◌≡◌, refl, List, ℕ, Result, Ok, Err}
 use Rattle.std.proofs.Common.{sym, ap, ◌∙◌}
 use Rattle.meaning.specs.Graph.{Graph}
 use Rattle.format.specs.Store.{Answer, accepted, refused, if_accepted}
@@ -9,8 +9,6 @@ use Rattle.meaning.specs.facts.Tests.{clash}
 use Rattle.store.specs.Loaded.{answered}
 use Rattle.store.specs.Refusals.{refused_as}
 use Rattle.store.specs.declared.refusals.Refusal.{Refusal}
-use Rattle.store.specs.declared.Verdict.{Verdict}
-use Rattle.store.specs.declared.Verdict.TheVariants.{Right, Refused}
 use Rattle.record.specs.Outcome.{forget, record_in, ReadOutcome}
 use Rattle.record.specs.laws.Parts.{then, accepted_value}
 use Rattle.record.specs.Stands.{OfRecord}
@@ -25,8 +23,8 @@ forget_then (refused n w) g = refl
 same_graph : {g : Graph} (a : Answer Unit) (x : Graph) → if_accepted a (λ _. accepted x) ≡ accepted g → x ≡ g
 same_graph a x h = accepted_value (then a (λ _. accepted x) _ h).second
 
-module _ {old new : List ℕ} {read : Verdict} (r : ReadOutcome old new read) where
-  pub unread : {why : Refusal} → read ≡ Refused why → ReadChecked old new (Refused why)
+module _ {old new : List ℕ} {read : Result (Unit {0}) Refusal} (r : ReadOutcome old new read) where
+  pub unread : {why : Refusal} → read ≡ Err why → ReadChecked old new (Err why)
   unread {why} e =
       let bad : record_in old ≡ refused_as why = not_given (record_in old) (sym (ap answered e) ∙ r.answer) in
       let none = ap with_references bad in
@@ -35,7 +33,7 @@ module _ {old new : List ℕ} {read : Verdict} (r : ReadOutcome old new read) wh
         kept = r.kept;
       }
 
-  pub by_references : {a : Verdict} → read ≡ Right → OfRecord new (λ g. answered a ≡ references g) → ReadChecked old new a
+  pub by_references : {a : Result (Unit {0}) Refusal} → read ≡ Ok tt → OfRecord new (λ g. answered a ≡ references g) → ReadChecked old new a
   by_references {a} e refs =
       let x = words_given (record_in old) (sym (ap answered e) ∙ r.answer) in
       let g = x.value in

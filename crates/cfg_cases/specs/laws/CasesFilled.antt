@@ -12,7 +12,7 @@ use Rattle.state_regions.specs.declared.cases.Case.{Case}
 use Rattle.nesting.specs.Nesting.{ClaimedRegion, MaybeClaimedRegion, ok, err, NestState, defer_edge, edge_bundle, to_region, true_cond}
 use Rattle.state_words.specs.Sections.{used, word, stored, stored_all, head, kinds, set_starts, set_lengths, cases}
 use Rattle.state_sets.specs.SetTables.{own_edge}
-use Rattle.state_regions.specs.RegionTables.{target_answer, case_words, case_total}
+use Rattle.state_regions.specs.RegionTables.{target_answer, case_words, case_kind_word, case_total}
 use Rattle.state_shown.specs.Sets.{Names, ShowsBundle, SameBundle}
 use Rattle.state_shown.specs.States.{Slots, ShowsState, ShowsClaimed, ShowsCase, shows_ok, shows_nothing, shows_edge, shows_others}
 use Rattle.state_shown.specs.States.{ShowsCases}
@@ -25,6 +25,7 @@ use Rattle.state_shown.specs.laws.SetStores.{only_word_same}
 use Rattle.state_shown.specs.laws.SetStores.{word_other, same_elsewhere}
 use Rattle.state_shown.specs.laws.RegionSteps.{slots_stay}
 use Rattle.state_shown.specs.laws.SetSteps.{set_of_one}
+use Rattle.state_regions.specs.declared.cases.CaseKind.TheVariants.{NothingDeferred, OwnEdge}
 use Rattle.cfg_bundles.specs.EdgesAndCases.{padded, claimed_case, unclaimed_case, edge_deferred, case_filled, filled_from, cases_filled}
 use Rattle.cfg_bundles.specs.laws.shown.RecordValues.{few_edges}
 use Rattle.cfg_bundles.specs.laws.shown.Deferred.{edge_names, edge_deferred_shown}
@@ -33,7 +34,7 @@ use Rattle.cfg_bundles.specs.laws.shown.CaseSteps.{Owner}
 use Rattle.cfg_bundles.specs.laws.shown.CaseSteps.{of_claimed, of_others, case_placed, placed_apart, placed_not_spare, CaseAndSet}
 use Rattle.cfg_bundles.specs.laws.shown.CaseSteps.{other_row}
 use Rattle.cfg_bundles.specs.laws.shown.CaseSteps.{shown_stays, row_word, claimed_row, nothing_row, edge_row}
-use Rattle.state_words.specs.Rows.{case_claimed, case_kind, case_nothing, case_origin, case_own_edge, case_row_at, cases_at, level_claimed}
+use Rattle.state_words.specs.Rows.{case_claimed, case_kind, case_origin, case_row_at, cases_at, level_claimed}
 use Rattle.state_words.specs.Rows.{level_deferred, level_unreachable, own_edges_from, case_kind_field}
 
 -- ---- How the target at place j was answered, with the definition's case.
@@ -68,7 +69,7 @@ filled_one g w r j h =
       ]
     ]
 
-row_kind : (w : List ℕ) → used ≤ length w → (j : ℕ) → j < 8 → (x : Case) (ws : List ℕ) → length ws ≤ 4 → x.kind ≤ 2
+row_kind : (w : List ℕ) → used ≤ length w → (j : ℕ) → j < 8 → (x : Case) (ws : List ℕ) → length ws ≤ 4 → case_kind_word x.kind ≤ 2
     → case_kind (stored_all w cases (case_row_at j) (case_words x ++ ws)) j ≤ 2
 row_kind w room j h x ws few kind =
     let e = row_word w room j h (case_words x ++ ws) (omega arith) 0 (omega arith) in rw e kind
@@ -83,10 +84,10 @@ filled_plain g w r j room h =
           (row_kind w room j h (claimed_case w e.target) (padded e.inputs) (omega arith) (omega arith))
       | no d ↦ elim (ℕ_discrete (target_answer w r j) level_deferred) [
         | yes a ↦ rw (ne_eqb (target_answer w r j) level_claimed d, eq-eqb (target_answer w r j) level_deferred a)
-            (row_kind (edge_deferred g w (own_edge j) r j) (omega arith) j h (unclaimed_case case_own_edge (own_edge j) 1) [] (omega arith)
+            (row_kind (edge_deferred g w (own_edge j) r j) (omega arith) j h (unclaimed_case OwnEdge (own_edge j) 1) [] (omega arith)
             (omega arith))
         | no f ↦ rw (ne_eqb (target_answer w r j) level_claimed d, ne_eqb (target_answer w r j) level_deferred f)
-            (row_kind w room j h (unclaimed_case case_nothing 0 0) [] (omega arith) (omega arith))
+            (row_kind w room j h (unclaimed_case NothingDeferred 0 0) [] (omega arith) (omega arith))
       ]
     ]
 

@@ -27,11 +27,12 @@ use Rattle.state_shown.specs.laws.SetStores.{same_elsewhere_run}
 use Rattle.state_shown.specs.laws.RegionSteps.{slots_stay}
 use Rattle.state_shown.specs.laws.SetSteps.{shift_removes, kept_beside}
 use Rattle.state_shown.specs.laws.Finds.{bundle_in}
+use Rattle.state_regions.specs.declared.cases.CaseKind.TheVariants.{Others}
 use Rattle.cfg_bundles.specs.EdgesAndCases.{claimed_case, unclaimed_case, given_word, given_inputs, split_filled}
 use Rattle.cfg_bundles.specs.laws.shown.CaseSteps.{one_row, Owner, of_claimed, of_others, case_placed, placed_apart, placed_not_spare}
 use Rattle.cfg_bundles.specs.laws.shown.CaseSteps.{CaseAndSet, shown_stays, claimed_row, others_row, one_kept}
 use Rattle.cfg_cases.specs.laws.CasesFilled.{total_of}
-use Rattle.state_words.specs.Rows.{bundle_target, case_others, case_row_at, case_set_length, case_set_start, cases_at, kind_ready}
+use Rattle.state_words.specs.Rows.{bundle_target, case_row_at, case_set_length, case_set_start, cases_at, kind_ready}
 use Rattle.state_words.specs.Rows.{region_kind}
 
 -- ---- The inputs of a bundle, as four words.
@@ -191,11 +192,11 @@ module _ {g : Graph} (few : length g.regions ≤ 32) {r : ℕ} (here : r < lengt
       let left₃ : ShowsSet g w₃ (word w₃ set_starts r) n (take i d ++ drop (suc i) d) =
       rw start₃ (set_stays (only_preserves one₃.only g) (λ k h. same_elsewhere_run w₂ cases (omega arith)
       (case_row_at 0) row₀ _) left) in
-      let row₁ = case_words (unclaimed_case case_others start n) in
+      let row₁ = case_words (unclaimed_case Others start n) in
       let w₄ = stored_all w₃ cases (case_row_at 1) row₁ in
       let one₄ = one_row w₃ 1 row₁ (omega arith) in
       let second : CaseAndSet g w₄ r 1 (err (take i d ++ drop (suc i) d)) =
-      subst (λ b. CaseAndSet g (stored_all w₃ cases (case_row_at 1) (case_words (unclaimed_case case_others b n))) r 1
+      subst (λ b. CaseAndSet g (stored_all w₃ cases (case_row_at 1) (case_words (unclaimed_case Others b n))) r 1
       (err (take i d ++ drop (suc i) d)))
       start₃ (others_row w₃ (omega arith) {r = r} {j = 1} (omega arith) left₃) in
       let first₄ = shown_stays one₄ clash slots₃ few here first in

@@ -14,9 +14,10 @@ use Rattle.state_shown.specs.Front.{SameFront, SameKinds}
 use Rattle.state_shown.specs.laws.FrontKept.{front_same, front_then, front_stored, stands_on, kinds_same, kinds_stored, kinds_then}
 use Rattle.state_shown.specs.laws.FrontKept.{adds_kinds, defines_kinds}
 use Rattle.cfg_regions.specs.laws.Leaves.{cases_kinds, split_kinds, return_kinds, appends_kinds, into_kinds, loops_kinds}
-use Rattle.state_words.specs.declared.defined.Made.{Made}
+use Rattle.state_words.specs.Totals.{Made}
+use Rattle.std.specs.Prelude.{Result, ⊤}
 use Rattle.cfg_regions.specs.declared.claim.Claim.{Claim}
-use Rattle.store.specs.declared.Verdict.{Verdict}
+use Rattle.store.specs.declared.refusals.Refusal.{Refusal}
 use Rattle.cfg_claims.specs.SplitOut.{SplitOut}
 use Rattle.cfg_regions.specs.ByState.{ClaimsBody, no_backedges, none_found, by_loop, ClaimsByState, ready_claimed, ready_waits}
 use Rattle.cfg_regions.specs.ByState.{not_ready, as_claimed}
@@ -123,13 +124,13 @@ steady_claimed : (w : List ℕ) (r : ℕ) → SteadyRecord w (as_claimed w r)
 steady_claimed w r = steady_then (steady_kind w r kind_claimed (λ e. absurd (omega arith)))
     (steady_of (kinds_stored (stored w kinds r kind_claimed) bodies (omega arith) r r))
 
-steady_body : {g : Graph} {w w' : List ℕ} {r : ℕ} {a : Claim} → Stands w g → ClaimsBody g w r w' a → SteadyRecord w w'
+steady_body : {g : Graph} {w w' : List ℕ} {r : ℕ} {a : Result Claim Refusal} → Stands w g → ClaimsBody g w r w' a → SteadyRecord w w'
 steady_body {w} {r} st (no_backedges z e) = rw e (steady_claimed w r)
 steady_body {w} {r} st (none_found z y e) = rw e (steady_claimed w r)
 steady_body {w} {r} st (by_loop z y x e) =
     steady_then (steady_claimed w r) (steady_of (loops_kinds (stands_on (steady_claimed w r).front st) x))
 
-steady_state : {g : Graph} {w w' : List ℕ} {r n m : ℕ} {a : Claim} → Stands w g → ClaimsByState g w r n m w' a → SteadyRecord w w'
+steady_state : {g : Graph} {w w' : List ℕ} {r n m : ℕ} {a : Result Claim Refusal} → Stands w g → ClaimsByState g w r n m w' a → SteadyRecord w w'
 steady_state st (ready_claimed e s b) = steady_body st b
 steady_state {w} st (ready_waits e d s) = rw s (steady_same w)
 steady_state {w} st (not_ready d s) = rw s (steady_same w)
@@ -166,7 +167,7 @@ steady_ready w r =
 -- ---- The cycle.
 module _ {g : Graph} {counts : List ℕ} where
   mutual
-    pub steady_claim : {w w' : List ℕ} {r n : ℕ} {a : Claim} → TriesClaim g counts w r n w' a → Stands w g → SteadyRecord w w'
+    pub steady_claim : {w w' : List ℕ} {r n : ℕ} {a : Result Claim Refusal} → TriesClaim g counts w r n w' a → Stands w g → SteadyRecord w w'
     steady_claim {w} (no_region h e) st = rw e (steady_attempted w)
     steady_claim {w} (refused_inside b s) st =
         steady_then (steady_attempted w) (steady_structurized s (stands_on (steady_attempted w).front st))
@@ -175,7 +176,7 @@ module _ {g : Graph} {counts : List ℕ} where
         steady_then x (steady_state (stands_on x.front st) c)
     steady_claim {w} (later_claim h d c) st = steady_then (steady_attempted w) (steady_state (stands_on (steady_attempted w).front st) c)
 
-    pub steady_structurized : {w w' : List ℕ} {r : ℕ} {a : Verdict} → StructurizesRegion g counts w r w' a → Stands w g → SteadyRecord w w'
+    pub steady_structurized : {w w' : List ℕ} {r : ℕ} {a : Result ⊤ Refusal} → StructurizesRegion g counts w r w' a → Stands w g → SteadyRecord w w'
     steady_structurized {w} {r} (refused_at_targets t) st =
         let x = steady_kind w r kind_in_progress (λ e. absurd (omega arith)) in steady_then x (steady_targets t (stands_on x.front st))
     steady_structurized {w} {r} (refused_at_inst t i) st =
@@ -190,7 +191,7 @@ module _ {g : Graph} {counts : List ℕ} where
         let y = steady_then x (steady_then (steady_targets t (stands_on x.front st)) (steady_of (inst_kinds i))) in
         steady_then (steady_then y (steady_all d (stands_on y.front st))) (rw e (steady_ready w₃ r))
 
-    pub steady_targets : {w w' : List ℕ} {r j : ℕ} {a : Verdict} → TargetRegions g counts w r j w' a → Stands w g → SteadyRecord w w'
+    pub steady_targets : {w w' : List ℕ} {r j : ℕ} {a : Result ⊤ Refusal} → TargetRegions g counts w r j w' a → Stands w g → SteadyRecord w w'
     steady_targets {w} (no_target h e) st = rw e (steady_same w)
     steady_targets (target_refused h c) st = steady_claim c st
     steady_targets {r} {j} (target_claimed {w₁} h c t) st =
@@ -208,7 +209,7 @@ module _ {g : Graph} {counts : List ℕ} where
     pub steady_split : {w w' : List ℕ} {r : ℕ} {a : SplitOut} → SplitsOut g counts w r w' a → Stands w g → SteadyRecord w w'
     steady_split (splits_out s) st = steady_scan s st
 
-    pub steady_resolves : {w w' : List ℕ} {r n : ℕ} {a : Verdict} → Resolves g counts w r n w' a → Stands w g → SteadyRecord w w'
+    pub steady_resolves : {w w' : List ℕ} {r n : ℕ} {a : Result ⊤ Refusal} → Resolves g counts w r n w' a → Stands w g → SteadyRecord w w'
     steady_resolves {w} (no_turn e) st = rw e (steady_same w)
     steady_resolves (nothing_claimed s) st = steady_split s st
     steady_resolves (claim_refused s) st = steady_split s st
@@ -216,5 +217,5 @@ module _ {g : Graph} {counts : List ℕ} where
     steady_resolves (claims_and s b t) st =
         let x = steady_then (steady_split s st) (steady_of (resolve_kinds b)) in steady_then x (steady_resolves t (stands_on x.front st))
 
-    pub steady_all : {w w' : List ℕ} {r : ℕ} {a : Verdict} → ResolvesAll g counts w r w' a → Stands w g → SteadyRecord w w'
+    pub steady_all : {w w' : List ℕ} {r : ℕ} {a : Result ⊤ Refusal} → ResolvesAll g counts w r w' a → Stands w g → SteadyRecord w w'
     steady_all (resolves_all t) st = steady_resolves t st

@@ -9,12 +9,10 @@ use Rattle.state_words.specs.Totals.{attempted}
 use Rattle.state_regions.specs.RegionTables.{target_answer_stored}
 use Rattle.state_shown.specs.laws.FrontKept.{stands_on}
 use Rattle.state_shown.specs.laws.Stores.{part_length}
-use Rattle.state_words.specs.declared.defined.Made.{Made}
-use Rattle.state_words.specs.declared.defined.Made.TheVariants as made
+use Rattle.state_words.specs.Totals.{Made, Done, Full}
+use Rattle.std.specs.Prelude.{Err, Ok, Result, ⊤}
 use Rattle.cfg_regions.specs.declared.claim.Claim.{Claim}
-use Rattle.cfg_regions.specs.declared.claim.Claim.TheVariants.{Claimed, Unclaimed, Refused}
-use Rattle.store.specs.declared.Verdict.{Verdict}
-use Rattle.store.specs.declared.Verdict.TheVariants as step
+use Rattle.cfg_regions.specs.declared.claim.Claim.TheVariants.{Claimed, Unclaimed}
 use Rattle.cfg_claims.specs.SplitOut.{SplitOut}
 use Rattle.cfg_claims.specs.SplitOut as split
 use Rattle.cfg_regions.specs.ByState.{ClaimsByState, unclaimed_word}
@@ -43,7 +41,7 @@ stood_on y s =
 -- ---- Target regions.
 pub record TargetsPassed (counts w₀ : List ℕ) (r : ℕ) (w : List ℕ) (j : ℕ) : Type 0 where
   pub steady : SteadyRecord w₀ w
-  pub more : (g : Graph) → Stands w₀ g → {w' : List ℕ} {a : Verdict} → TargetRegions g counts w r j w' a
+  pub more : (g : Graph) → Stands w₀ g → {w' : List ℕ} {a : Result ⊤ Refusal} → TargetRegions g counts w r j w' a
       → TargetRegions g counts w₀ r 0 w' a
 
 pub targets_none : (counts w : List ℕ) (r : ℕ) → TargetsPassed counts w r w 0
@@ -54,15 +52,15 @@ module _ {counts w₀ : List ℕ} {r : ℕ} {w : List ℕ} {j n : ℕ} (passed :
   on : {g : Graph} → Stands w₀ g → Stands w g
   on st = stands_on passed.steady.front st
 
-  pub targets_over : n ≤ j → (g : Graph) → Stands w₀ g → TargetRegions g counts w₀ r 0 w step.Right
+  pub targets_over : n ≤ j → (g : Graph) → Stands w₀ g → TargetRegions g counts w₀ r 0 w (Ok tt)
   targets_over h g st = passed.more g st (no_target (rw (size g st) at h) refl)
 
-  module _ (more : j < n) {t : ℕ} (target : (g : Graph) → Stands w g → t ≡ (edge_of g r j).target) {w₁ : List ℕ} {a : Claim}
+  module _ (more : j < n) {t : ℕ} (target : (g : Graph) → Stands w g → t ≡ (edge_of g r j).target) {w₁ : List ℕ} {a : Result Claim Refusal}
       (claim : (g : Graph) → Stands w g → TriesClaim g counts w t 1 w₁ a) where
     its_claim : (g : Graph) → Stands w₀ g → TriesClaim g counts w (edge_of g r j).target 1 w₁ a
     its_claim g st = rw (target g (on st)) at (claim g (on st))
 
-    pub targets_refused : {y : Refusal} → a ≡ Refused y → (g : Graph) → Stands w₀ g → TargetRegions g counts w₀ r 0 w₁ (step.Refused y)
+    pub targets_refused : {y : Refusal} → a ≡ Err y → (g : Graph) → Stands w₀ g → TargetRegions g counts w₀ r 0 w₁ (Err y)
     targets_refused e g st = passed.more g st (target_refused (rw (size g st) at more) (rw e at (its_claim g st)))
 
     module _ (stood : Stood w₀) {w₂ : List ℕ} where
@@ -71,7 +69,7 @@ module _ {counts w₀ : List ℕ} {r : ℕ} {w : List ℕ} {j n : ℕ} (passed :
           steady_then passed.steady
           (steady_then (steady_claim (claim stood.graph (on stood.stands)) (on stood.stands)) (rw e (steady_answer w₁ r j y)))
 
-      pub targets_claimed : a ≡ Claimed → w₂ ≡ target_answer_stored w₁ r j level_claimed → TargetsPassed counts w₀ r w₂ (j + 1)
+      pub targets_claimed : a ≡ Ok Claimed → w₂ ≡ target_answer_stored w₁ r j level_claimed → TargetsPassed counts w₀ r w₂ (j + 1)
       targets_claimed e s =
           record {
             steady = passed_on 2 s;
@@ -79,7 +77,7 @@ module _ {counts w₀ : List ℕ} {r : ℕ} {w : List ℕ} {j n : ℕ} (passed :
                 (rw (s, add-one j) at t));
           }
 
-      pub targets_waiting : a ≡ Unclaimed → w₂ ≡ target_answer_stored w₁ r j (unclaimed_word w₁ t) → TargetsPassed counts w₀ r w₂ (j + 1)
+      pub targets_waiting : a ≡ Ok Unclaimed → w₂ ≡ target_answer_stored w₁ r j (unclaimed_word w₁ t) → TargetsPassed counts w₀ r w₂ (j + 1)
       targets_waiting e s =
           record {
             steady = passed_on (unclaimed_word w₁ t) s;
@@ -123,7 +121,7 @@ module _ {counts w₀ : List ℕ} {r n : ℕ} {w : List ℕ} {i : ℕ} (passed :
           more = λ g st x. passed.more g st (passes_return more (sym target_is ∙ e) (rw (add-one i) at x));
         }
 
-    module _ (to_region : t ≡ return_word → ⊥) {k : ℕ} (of_count : k ≡ bundle_count w p) {w₁ : List ℕ} {a : Claim}
+    module _ (to_region : t ≡ return_word → ⊥) {k : ℕ} (of_count : k ≡ bundle_count w p) {w₁ : List ℕ} {a : Result Claim Refusal}
         (claim : (g : Graph) → Stands w g → TriesClaim g counts w t k w₁ a) where
       elsewhere : own_target w r i ≡ return_word → ⊥
       elsewhere e = to_region (target_is ∙ e)
@@ -132,18 +130,18 @@ module _ {counts w₀ : List ℕ} {r n : ℕ} {w : List ℕ} {i : ℕ} (passed :
       bundle_claim g st =
           let c : k ≡ own_count w r i = of_count ∙ rw place in rw (target_is, c) at (claim g (split_on st))
 
-      pub scan_claimed : n ≡ word w₀ set_lengths r → a ≡ Claimed → Scanned counts w₀ r n w₁ i
+      pub scan_claimed : n ≡ word w₀ set_lengths r → a ≡ Ok Claimed → Scanned counts w₀ r n w₁ i
       scan_claimed size e =
           record {
             claims_none = λ l. absurd (omega arith);
             claims_one = λ l g st. out_of size g st (claims_bundle more elsewhere (rw e at (bundle_claim g st)));
           }
 
-      pub scan_refuses : n ≡ word w₀ set_lengths r → {y : Refusal} → a ≡ Refused y → (g : Graph) → Stands w₀ g
+      pub scan_refuses : n ≡ word w₀ set_lengths r → {y : Refusal} → a ≡ Err y → (g : Graph) → Stands w₀ g
           → SplitsOut g counts w₀ r w₁ (split.Refused y)
       scan_refuses size e g st = out_of size g st (scan_refused more elsewhere (rw e at (bundle_claim g st)))
 
-      pub scan_waiting : Stood w₀ → a ≡ Unclaimed → ScanPassed counts w₀ r n w₁ (i + 1)
+      pub scan_waiting : Stood w₀ → a ≡ Ok Unclaimed → ScanPassed counts w₀ r n w₁ (i + 1)
       scan_waiting stood e =
           record {
             steady = steady_then passed.steady (steady_claim (claim stood.graph (split_on stood.stands))
@@ -154,7 +152,7 @@ module _ {counts w₀ : List ℕ} {r n : ℕ} {w : List ℕ} {i : ℕ} (passed :
 -- ---- Turns over the deferred edges.
 pub record TurnsPassed (counts w₀ : List ℕ) (r : ℕ) (w : List ℕ) (turns : ℕ) : Type 0 where
   pub steady : SteadyRecord w₀ w
-  pub more : (g : Graph) → Stands w₀ g → {w' : List ℕ} {a : Verdict} → Resolves g counts w r turns w' a → ResolvesAll g counts w₀ r w' a
+  pub more : (g : Graph) → Stands w₀ g → {w' : List ℕ} {a : Result ⊤ Refusal} → Resolves g counts w r turns w' a → ResolvesAll g counts w₀ r w' a
 
 pub turns_none : (counts w : List ℕ) (r n : ℕ) → ((g : Graph) → Stands w g → n ≡ length g.regions) → TurnsPassed counts w r w n
 turns_none counts w r n size =
@@ -164,23 +162,23 @@ module _ {counts w₀ : List ℕ} {r : ℕ} {w : List ℕ} {turns : ℕ} (passed
   turn_on : {g : Graph} → Stands w₀ g → Stands w g
   turn_on st = stands_on passed.steady.front st
 
-  pub turns_over : turns ≤ 0 → (g : Graph) → Stands w₀ g → ResolvesAll g counts w₀ r w step.Right
+  pub turns_over : turns ≤ 0 → (g : Graph) → Stands w₀ g → ResolvesAll g counts w₀ r w (Ok tt)
   turns_over h g st = let e : turns ≡ 0 = omega arith in passed.more g st (rw e (no_turn refl))
 
   module _ (some : 0 < turns) where
     one_more : suc (turns - 1) ≡ turns
     one_more = omega arith
 
-    turned : (g : Graph) → Stands w₀ g → {w' : List ℕ} {b : Verdict} → Resolves g counts w r (suc (turns - 1)) w' b
+    turned : (g : Graph) → Stands w₀ g → {w' : List ℕ} {b : Result ⊤ Refusal} → Resolves g counts w r (suc (turns - 1)) w' b
         → ResolvesAll g counts w₀ r w' b
     turned g st x = passed.more g st (rw one_more at x)
 
     pub turn_nothing : {w₁ : List ℕ} → ((g : Graph) → Stands w g → SplitsOut g counts w r w₁ split.Nothing) → (g : Graph) → Stands w₀ g
-        → ResolvesAll g counts w₀ r w₁ step.Right
+        → ResolvesAll g counts w₀ r w₁ (Ok tt)
     turn_nothing scan g st = turned g st (nothing_claimed (scan g (turn_on st)))
 
     pub turn_refused : {w₁ : List ℕ} {y : Refusal} → ((g : Graph) → Stands w g → SplitsOut g counts w r w₁ (split.Refused y))
-        → (g : Graph) → Stands w₀ g → ResolvesAll g counts w₀ r w₁ (step.Refused y)
+        → (g : Graph) → Stands w₀ g → ResolvesAll g counts w₀ r w₁ (Err y)
     turn_refused scan g st = turned g st (claim_refused (scan g (turn_on st)))
 
     module _ {w₁ : List ℕ} {i : ℕ} (scan : (g : Graph) → Stands w g → SplitsOut g counts w r w₁ (split.At i)) {w₂ : List ℕ} {b : Made}
@@ -188,10 +186,10 @@ module _ {counts w₀ : List ℕ} {r : ℕ} {w : List ℕ} {turns : ℕ} (passed
       then_on : {g : Graph} → Stands w₀ g → Stands w₁ g
       then_on {g} st = stands_on (steady_split (scan g (turn_on st)) (turn_on st)).front (turn_on st)
 
-      pub turn_full : b ≡ made.Full → (g : Graph) → Stands w₀ g → ResolvesAll g counts w₀ r w₂ (step.Refused TooMany)
+      pub turn_full : b ≡ Full → (g : Graph) → Stands w₀ g → ResolvesAll g counts w₀ r w₂ (Err TooMany)
       turn_full e g st = turned g st (select_refused (scan g (turn_on st)) (rw e at (select g (then_on st))))
 
-      pub turn_again : b ≡ made.Done → Stood w₀ → TurnsPassed counts w₀ r w₂ (turns - 1)
+      pub turn_again : b ≡ Done → Stood w₀ → TurnsPassed counts w₀ r w₂ (turns - 1)
       turn_again e stood =
           let g = stood.graph in
           record {
@@ -212,28 +210,28 @@ pub record BeforeTurns (counts w : List ℕ) (r : ℕ) (w₃ : List ℕ) : Type 
   pub less : suc (left w₃) ≤ left w
   pub stood : Stood w₃
   pub refused_late : (g : Graph) → Stands w g → {w₄ : List ℕ} {y : Refusal}
-      → ((g : Graph) → Stands w₃ g → ResolvesAll g counts w₃ r w₄ (step.Refused y))
-      → StructurizesRegion g counts w r w₄ (step.Refused y)
-  pub all_done : (g : Graph) → Stands w g → {w₄ : List ℕ} → ((g : Graph) → Stands w₃ g → ResolvesAll g counts w₃ r w₄ step.Right)
-      → {w₅ : List ℕ} → w₅ ≡ made_ready w₄ r → StructurizesRegion g counts w r w₅ step.Right
+      → ((g : Graph) → Stands w₃ g → ResolvesAll g counts w₃ r w₄ (Err y))
+      → StructurizesRegion g counts w r w₄ (Err y)
+  pub all_done : (g : Graph) → Stands w g → {w₄ : List ℕ} → ((g : Graph) → Stands w₃ g → ResolvesAll g counts w₃ r w₄ (Ok tt))
+      → {w₅ : List ℕ} → w₅ ≡ made_ready w₄ r → StructurizesRegion g counts w r w₅ (Ok tt)
 
 module _ {w w₁ : List ℕ} (r : ℕ) (begun : w₁ ≡ stored w kinds r kind_in_progress) where
   first_on : {g : Graph} → Stands w g → Stands w₁ g
   first_on st = stands_on (begun_steady r begun).front st
 
-  pub region_refused : {counts w₂ : List ℕ} {y : Refusal} → ((g : Graph) → Stands w₁ g → TargetRegions g counts w₁ r 0 w₂ (step.Refused y))
-      → (g : Graph) → Stands w g → StructurizesRegion g counts w r w₂ (step.Refused y)
+  pub region_refused : {counts w₂ : List ℕ} {y : Refusal} → ((g : Graph) → Stands w₁ g → TargetRegions g counts w₁ r 0 w₂ (Err y))
+      → (g : Graph) → Stands w g → StructurizesRegion g counts w r w₂ (Err y)
   region_refused targets g st = refused_at_targets (rw begun at (targets g (first_on st)))
 
-  module _ {counts w₂ : List ℕ} (targets : (g : Graph) → Stands w₁ g → TargetRegions g counts w₁ r 0 w₂ step.Right) where
-    its_targets : {g : Graph} → Stands w g → TargetRegions g counts (stored w kinds r kind_in_progress) r 0 w₂ step.Right
+  module _ {counts w₂ : List ℕ} (targets : (g : Graph) → Stands w₁ g → TargetRegions g counts w₁ r 0 w₂ (Ok tt)) where
+    its_targets : {g : Graph} → Stands w g → TargetRegions g counts (stored w kinds r kind_in_progress) r 0 w₂ (Ok tt)
     its_targets {g} st = rw begun at (targets g (first_on st))
 
     second_on : {g : Graph} → Stands w g → Stands w₂ g
     second_on {g} st = stands_on (steady_targets (targets g (first_on st)) (first_on st)).front (first_on st)
 
     module _ {w₃ : List ℕ} {b : Made} (inst : (g : Graph) → Stands w₂ g → ByControlInst g w₂ r w₃ b) where
-      pub region_full : b ≡ made.Full → (g : Graph) → Stands w g → StructurizesRegion g counts w r w₃ (step.Refused TooMany)
+      pub region_full : b ≡ Full → (g : Graph) → Stands w g → StructurizesRegion g counts w r w₃ (Err TooMany)
       region_full e g st = refused_at_inst (its_targets st) (rw e at (inst g (second_on st)))
 
       third_on : {g : Graph} → Stands w g → Stands w₃ g
@@ -244,7 +242,7 @@ module _ {w w₁ : List ℕ} (r : ℕ) (begun : w₁ ≡ stored w kinds r kind_i
           steady_then (steady_targets (targets s.graph (first_on s.stands)) (first_on s.stands))
           (steady_of (inst_kinds (inst s.graph (second_on s.stands))))
 
-      pub before_turns : b ≡ made.Done → NotBegun w r → Stood w → BeforeTurns counts w r w₃
+      pub before_turns : b ≡ Done → NotBegun w r → Stood w → BeforeTurns counts w r w₃
       before_turns e new s =
           record {
             less = let x = begun_less s.room new begun in let y = (after_inst s).fewer in omega arith;
@@ -261,24 +259,24 @@ pub not_begun_yet : {w : List ℕ} {r state : ℕ} → r < 32 → state ≡ regi
 not_begun_yet below of_state new = record { below = below; kind = sym of_state ∙ new }
 
 module _ {counts w w₁ : List ℕ} {r : ℕ} (n : ℕ) (counted : w₁ ≡ attempted w) where
-  pub claim_nowhere : 32 ≤ r → (g : Graph) → Stands w g → TriesClaim g counts w r n w₁ (Refused (Never r))
+  pub claim_nowhere : 32 ≤ r → (g : Graph) → Stands w g → TriesClaim g counts w r n w₁ (Err (Never r))
   claim_nowhere h g st = no_region h counted
 
   module _ (below : r < 32) {state : ℕ} (of_state : state ≡ region_kind w₁ r) where
     pub claim_later : (state ≡ kind_not_begun → ⊥) → {m : ℕ} → m ≡ get_or counts r 0
-        → {w₂ : List ℕ} → w₂ ≡ w₁ → {w₃ : List ℕ} {a : Claim} → ((g : Graph) → Stands w₂ g → ClaimsByState g w₂ r n m w₃ a)
+        → {w₂ : List ℕ} → w₂ ≡ w₁ → {w₃ : List ℕ} {a : Result Claim Refusal} → ((g : Graph) → Stands w₂ g → ClaimsByState g w₂ r n m w₃ a)
         → (g : Graph) → Stands w g → TriesClaim g counts w r n w₃ a
     claim_later d i same c g st =
         later_claim below (λ e. d (of_state ∙ rw counted e))
         (rw (i, same, counted) at (c g (rw same (stands_on (attempted_on counted).front st))))
 
     module _ (new : state ≡ kind_not_begun) where
-      module _ {w₂ : List ℕ} {a : Verdict} (inside : (g : Graph) → Stands w₁ g → StructurizesRegion g counts w₁ r w₂ a) where
-        pub claim_inside : {y : Refusal} → a ≡ step.Refused y → (g : Graph) → Stands w g → TriesClaim g counts w r n w₂ (Refused y)
+      module _ {w₂ : List ℕ} {a : Result ⊤ Refusal} (inside : (g : Graph) → Stands w₁ g → StructurizesRegion g counts w₁ r w₂ a) where
+        pub claim_inside : {y : Refusal} → a ≡ Err y → (g : Graph) → Stands w g → TriesClaim g counts w r n w₂ (Err y)
         claim_inside e g st = refused_inside (rw counted at (not_begun_yet below of_state new))
             (rw (e, counted) at (inside g (stands_on (attempted_on counted).front st)))
 
-        pub claim_first : a ≡ step.Right → {m : ℕ} → m ≡ get_or counts r 0 → {w₃ : List ℕ} → w₃ ≡ w₂ → {w₄ : List ℕ} {b : Claim}
+        pub claim_first : a ≡ Ok tt → {m : ℕ} → m ≡ get_or counts r 0 → {w₃ : List ℕ} → w₃ ≡ w₂ → {w₄ : List ℕ} {b : Result Claim Refusal}
             → ((g : Graph) → Stands w₃ g → ClaimsByState g w₃ r n m w₄ b) → (g : Graph) → Stands w g → TriesClaim g counts w r n w₄ b
         claim_first e i same c g st =
             let s = inside g (stands_on (attempted_on counted).front st) in

@@ -1,36 +1,14 @@
 -- One more for each target makes what the definition counts of the list; and how far a count can have grown, so that none passes 32 bits.
-use Rattle.std.specs.Prelude.{◌≡◌, List, ℕ, ◌+◌, ◌≤◌, ◌<◌, min, eqb, length, get_or, set, drop}
-use Rattle.std.proofs.Common.{sym, ap, subst, ◌∙◌, add-one, arith, drop_of_length-le, drop-cons, get_or-set_same, get_or-set_other}
+use Rattle.std.specs.Prelude.{◌≡◌, List, ℕ, ◌+◌, ◌≤◌, ◌<◌, eqb, length, get_or, drop}
+use Rattle.std.proofs.Common.{sym, ap, ◌∙◌, add-one, arith, drop-cons}
 use Rattle.std.proofs.lemmas.List.{length-map}
-use Rattle.std.proofs.lemmas.Bool.{eqb-false}
 use Rattle.meaning.specs.Graph.{Graph, region, edges_of, targets_of}
 use Rattle.meaning.specs.Lists.{pick, times_in}
-use Rattle.meaning.specs.facts.Tests.{at_or_else, eqb_less, eqb_self}
-use Rattle.cfg_incoming.specs.Counted.{AtMost, OneMore, GainsAll, CountedUpTo, Grows}
-
-pub one_more_here : (c : List ℕ) (r : ℕ) → r < length c → OneMore c (set c r (get_or c r 0 + 1)) r
-one_more_here c r l =
-    record {
-      each =
-          λ a h. at_or_else _ a r
-          (λ e. rw (e, eqb_self r) (get_or-set_same c r (get_or c r 0 + 1) 0 l))
-          (λ e. rw (e, get_or-set_other c r a (get_or c r 0 + 1) 0 (eqb-false a r e)) (omega arith));
-    }
-
-pub one_more_by : (c : List ℕ) (r : ℕ) {m : ℕ} → r < length c → get_or c r 0 ≤ 4294967294 → m ≡ min (get_or c r 0 + 1) 4294967295
-    → OneMore c (set c r m) r
-one_more_by c r {m} l few e =
-    let s : m ≡ get_or c r 0 + 1 = omega arith in
-    subst (λ z. OneMore c (set c r z) r) (sym s) (one_more_here c r l)
-
-pub one_more_beyond : (c : List ℕ) (r : ℕ) → 32 ≤ r → OneMore c c r
-one_more_beyond c r l = record { each = λ a h. rw (eqb_less a r (omega arith)) (omega arith) }
+use Rattle.meaning.specs.facts.Tests.{at_or_else, eqb_self}
+use Rattle.cfg_incoming.specs.Counted.{AtMost, OneMore, CountedUpTo, Grows}
 
 pub targets_counted : (g : Graph) (r : ℕ) {n : ℕ} → n ≡ length (edges_of (region g r).terminator) → n ≡ length (targets_of g r)
 targets_counted g r e = e ∙ sym (length-map (edges_of (region g r).terminator) _)
-
-pub counting_start : (c ts : List ℕ) → CountedUpTo c c 0 ts
-counting_start c ts = record { each = λ a k. omega arith }
 
 module _ (ts : List ℕ) {n : ℕ} (size : n ≡ length ts) {c c' : List ℕ} {j : ℕ} (h : CountedUpTo c c' j ts) where
   pub counting_turn : {d : List ℕ} {x : ℕ} → j < n → x ≡ get_or ts j 0 → OneMore c' d x → CountedUpTo c d (j + 1) ts
@@ -42,13 +20,6 @@ module _ (ts : List ℕ) {n : ℕ} (size : n ≡ length ts) {c c' : List ℕ} {j
             let more = o.each a k ∙ ap (λ y. get_or c' a 0 + pick (eqb a y) 1 0) e in
             omega (arith, h.each a k);
       }
-
-  pub counting_end : n ≤ j → GainsAll c c' ts
-  counting_end l =
-      record { each = λ a k. let none = ap (times_in a) (drop_of_length-le ts {i = j} (omega arith)) in omega (arith, h.each a k) }
-
-pub grows_start : (c : List ℕ) → Grows c c 0
-grows_start c = record { most = λ n m. record { each = λ a k. omega (arith, m.each a k) } }
 
 pub bit_small : (a x : ℕ) → pick (eqb a x) 1 0 ≤ 1
 bit_small a x = at_or_else _ a x (λ e. rw (e, eqb_self x) (omega arith)) (λ e. rw e (omega arith))

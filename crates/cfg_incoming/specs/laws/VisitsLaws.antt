@@ -2,7 +2,7 @@
 -- neither the stack nor a count outgrows its room, since each region is visited once.
 use Rattle.std.specs.Prelude.{◌≡◌, refl, Bool, List, [], ◌∷◌, ◌++◌, ℕ, zero, suc, ◌+◌, ◌-◌, ◌≤◌, ◌<◌, min, length, get_or, set, drop, replicate}
 use Rattle.std.proofs.Math.Path.{sym, ap}
-use Rattle.std.proofs.Common.{◌∙◌, add-one, length-set, drop_of_length-le, drop-cons, get_or-set_same}
+use Rattle.std.proofs.Common.{◌∙◌, add-one, length-set, drop-cons, get_or-set_same}
 use Rattle.std.proofs.Math.Bool.{true, false}
 use native.Mathlib.Omega.{arith}
 use Rattle.std.proofs.Math.ListN.{get_or-replicate}
@@ -16,7 +16,7 @@ use Rattle.meaning.specs.facts.Tests.{at_or_else, eqb_self}
 use Rattle.format.specs.Valid.{Valid, ValidEdge, ValidEnd}
 use Rattle.nesting.specs.Nesting.{visit, reachable, exit_targets, incoming_edge_count, incoming_edge_counts}
 use Rattle.fields.specs.ByNumber.{before}
-use Rattle.cfg_incoming.specs.Counted.{AtMost, OneMore, GainsAll, Grows}
+use Rattle.cfg_incoming.specs.Counted.{OneMore, GainsAll, Grows}
 use Rattle.cfg_incoming.specs.laws.CountedLaws.{bit_small, targets_counted}
 use Rattle.cfg_incoming.specs.Visits.{unseen, NewMark, OldMark, Room, Visiting}
 
@@ -49,9 +49,6 @@ module _ (g : Graph) (r : ℕ) {n : ℕ} (size : n ≡ min (length (edges_of (re
     (few : length (edges_of (region g r).terminator) ≤ 8) where
   all_targets : n ≡ length (targets_of g r)
   all_targets = targets_counted g r (omega arith)
-
-  pub push_start : (xs : List ℕ) (at : ℕ) → before xs at ≡ drop n (targets_of g r) ++ before xs at
-  push_start xs at = rw (drop_of_length-le (targets_of g r) {i = n} (omega (arith, all_targets)))
 
   pub push_turn : {left at x : ℕ} (xs rest : List ℕ) → at < length xs → 1 ≤ left → left ≤ n → x ≡ get_or (targets_of g r) (left - 1) 0
       → before xs at ≡ drop left (targets_of g r) ++ rest → before (set xs at x) (at + 1) ≡ drop (left - 1) (targets_of g r) ++ rest
@@ -153,10 +150,12 @@ module _ {g : Graph} (v : Valid g) where
     unfolding visit
     no_fuel e = all_visited (rw (e, visit) at h.whole)
 
-pub visiting_popped : {g : Graph} {fuel : ℕ} (xs : List ℕ) (d : ℕ) {seen : List Bool} {c : List ℕ} → Visiting g fuel (before xs d) seen c
-    → 1 ≤ fuel → (d ≡ 0 → ⊥) → Visiting g (suc (fuel - 1)) (get_or xs (d - 1) 0 ∷ before xs (d - 1)) seen c
-visiting_popped {fuel = fuel} xs d h l n =
-    let e : suc (fuel - 1) ≡ fuel = omega arith in
+-- Of `turns` turns i are over.
+pub visiting_popped : {g : Graph} {turns i : ℕ} (xs : List ℕ) (d : ℕ) {seen : List Bool} {c : List ℕ}
+    → Visiting g (turns - i) (before xs d) seen c → i < turns → (d ≡ 0 → ⊥)
+    → Visiting g (suc (turns - (i + 1))) (get_or xs (d - 1) 0 ∷ before xs (d - 1)) seen c
+visiting_popped {turns = turns} {i = i} xs d h l n =
+    let e : suc (turns - (i + 1)) ≡ turns - i = omega arith in
     rw (e, ← popped xs d n) h
 
 -- ---- Room for the next visit.
@@ -168,15 +167,9 @@ room_start {e = e} one =
       small = record { each = λ a k. omega (arith, one.each a k, bit_small a e, get_or-replicate {A = ℕ} 32 a 0 0 k) };
     }
 
-pub room_popped : {seen : List Bool} {c : List ℕ} {depth : ℕ} → Room seen c depth → (depth ≡ 0 → ⊥) → Room seen c (suc (depth - 1))
-room_popped {depth = depth} h n = let e : suc (depth - 1) ≡ depth = omega arith in rw e h
-
 module _ {seen : List Bool} {c : List ℕ} {depth : ℕ} (h : Room seen c (suc depth)) where
   pub room_known : {after : List Bool} {r : ℕ} → OldMark seen after r → Room after c depth
   room_known m = rw m.is record { sized = h.sized; stack = omega (arith, h.stack); small = h.small }
-
-  pub room_counts : (n : ℕ) → 4194241 ≤ n → AtMost c n
-  room_counts n l = record { each = λ a k. omega (arith, h.small.each a k) }
 
   pub room_new : {after : List Bool} {r : ℕ} {d e : List ℕ} {depth' : ℕ} → NewMark seen after r → Grows c d 65535 → Grows d e 65535
       → depth' ≤ depth + 8 → Room after e depth'

@@ -9,9 +9,8 @@ use Rattle.fields.specs.Shape.{value_is, terminator_is}
 use Rattle.fields.specs.declared.shape.Value.{Value}
 use Rattle.fields.specs.declared.shape.Terminator.{Terminator}
 use Rattle.state_regions.specs.declared.cases.Case.{Case}
-use Rattle.state_words.specs.declared.defined.Defined.{Defined}
-use Rattle.state_words.specs.declared.defined.Defined.TheVariants.{Number}
-use Rattle.state_words.specs.declared.defined.Defined.TheVariants as defined
+use Rattle.std.specs.Prelude.{Ok}
+use Rattle.state_words.specs.Totals.{Defined, Made, Done, Full}
 use Rattle.state_words.specs.Sections.{word, stored, children, set_lengths}
 use Rattle.state_nodes.specs.NodeTables.{Adds}
 use Rattle.state_words.specs.Totals.{Defines}
@@ -21,8 +20,6 @@ use Rattle.cfg_bundles.specs.EdgesAndCases.{condition_in, cases_filled, split_fi
 use Rattle.state_shown.specs.Front.{SameKinds}
 use Rattle.state_shown.specs.laws.FrontKept.{stands_kept, kinds_stored, kinds_then, adds_kinds}
 use Rattle.cfg_regions.specs.laws.Leaves.{cases_kinds, split_kinds}
-use Rattle.state_words.specs.declared.defined.Made.{Made}
-use Rattle.state_words.specs.declared.defined.Made.TheVariants.{Done, Full}
 use Rattle.cfg_select_nodes.specs.declared.define.Scrutinee.TheVariants as scrutinee
 use Rattle.cfg_selects.specs.Into.{StructurizesInto}
 use Rattle.cfg_regions.specs.ByState.{backedge_at}
@@ -38,10 +35,10 @@ pub blocks_kinds : {g : Graph} {w w' : List ℕ} {r : ℕ} → AddsBlocks g w r 
 blocks_kinds {w} {r} (no_blocks z e) = rw e (kinds_stored w children (omega arith) r 0)
 blocks_kinds {r} (some_blocks {w₁} {h} d x e) = rw e (kinds_then (adds_kinds x) (kinds_stored w₁ children (omega arith) r h))
 
-pub exit_none : {w w' : List ℕ} {r : ℕ} {a : Defined} → Defines 1 most_nodes w w' a → a ≡ defined.Full → AddsExit w r w' Full
+pub exit_none : {w w' : List ℕ} {r : ℕ} {a : Defined} → Defines 1 most_nodes w w' a → a ≡ Full → AddsExit w r w' Full
 exit_none d e = exit_full (rw e at d)
 
-pub exit_some : {w w₁ w₂ w' : List ℕ} {r node h before : ℕ} {a : Defined} → Defines 1 most_nodes w w₁ a → a ≡ Number node
+pub exit_some : {w w₁ w₂ w' : List ℕ} {r node h before : ℕ} {a : Defined} → Defines 1 most_nodes w w₁ a → a ≡ Ok node
     → before ≡ word w₁ children r → Adds w₁ w₂ (Exit before node r) h → w' ≡ stored w₂ children r h → AddsExit w r w' Done
 exit_some d e b x s = exit_added (rw e at d) (rw b at x) s
 

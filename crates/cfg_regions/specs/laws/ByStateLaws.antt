@@ -5,10 +5,12 @@ use Rattle.std.proofs.Common.{sym, ap, ◌∙◌, arith}
 use borrow.Author.Tests.{eq-eqb, ne_eqb, eqb-true, eqb-false}
 use Rattle.meaning.specs.Graph.{Graph}
 use Rattle.state_words.specs.Sections.{word, stored, kinds, backedges, bodies, children, set_lengths}
-use Rattle.state_words.specs.declared.defined.Made.{Made}
+use Rattle.state_words.specs.Totals.{Made}
 use Rattle.cfg_loops.specs.Loops.{StructurizesLoop}
+use Rattle.std.specs.Prelude.{Ok, Result}
 use Rattle.cfg_regions.specs.declared.claim.Claim.{Claim}
 use Rattle.cfg_regions.specs.declared.claim.Claim.TheVariants.{Claimed, Unclaimed}
+use Rattle.store.specs.declared.refusals.Refusal.{Refusal}
 use Rattle.cfg_regions.specs.ByState.{claim_of, backedge_at, as_claimed, ClaimsBody, no_backedges, none_found, by_loop, ClaimsByState}
 use Rattle.cfg_regions.specs.ByState.{ready_claimed, ready_waits, not_ready, is_trivial, unclaimed_word}
 use Rattle.state_words.specs.Rows.{kind_claimed, kind_ready, largest, no_bundle_word, region_kind, level_unreachable}
@@ -47,7 +49,7 @@ module _ (g : Graph) (w : List ℕ) {w₁ w₂ : List ℕ} (r : ℕ) (claims : w
   backedges_read : b ≡ word (as_claimed w r) backedges r
   backedges_read = read.0 ∙ ap (λ l. word l backedges r) now_claimed
 
-  pub body_plain : same ≡ true → ClaimsBody g w r w₂ Claimed
+  pub body_plain : same ≡ true → ClaimsBody g w r w₂ (Ok Claimed)
   body_plain e = no_backedges (sym backedges_read ∙ eqb-true b z (sym test ∙ e) ∙ none) now_claimed
 
   module _ (some : same ≡ false) {p : ℕ} (found : p ≡ backedge_at w₂ r) where
@@ -57,10 +59,10 @@ module _ (g : Graph) (w : List ℕ) {w₁ w₂ : List ℕ} (r : ℕ) (claims : w
     has_some : word (as_claimed w r) backedges r ≡ 0 → ⊥
     has_some y = eqb-false b z (sym test ∙ some) (backedges_read ∙ y ∙ sym none)
 
-    pub body_without : p ≡ no_bundle_word → ClaimsBody g w r w₂ Claimed
+    pub body_without : p ≡ no_bundle_word → ClaimsBody g w r w₂ (Ok Claimed)
     body_without e = none_found has_some (sym found_at ∙ e) now_claimed
 
-    pub body_loop : (p ≡ no_bundle_word → ⊥) → {w₃ : List ℕ} {made : Made} → StructurizesLoop r p w₂ w₃ made → {a : Claim}
+    pub body_loop : (p ≡ no_bundle_word → ⊥) → {w₃ : List ℕ} {made : Made} → StructurizesLoop r p w₂ w₃ made → {a : Result Claim Refusal}
         → a ≡ claim_of made → ClaimsBody g w r w₃ a
     body_loop d f e = by_loop has_some (λ z. d (found_at ∙ z)) (rw (now_claimed, found_at) at f) e
 
@@ -70,11 +72,11 @@ module _ (g : Graph) (w : List ℕ) (r n incoming : ℕ) {state : ℕ} (of_state
     all_edges : m ≡ n + word w backedges r
     all_edges = (let z = read.0 in let y = read.1 in omega arith)
 
-    pub state_claimed : same ≡ true → {w' : List ℕ} {a : Claim} → ClaimsBody g w r w' a → ClaimsByState g w r n incoming w' a
+    pub state_claimed : same ≡ true → {w' : List ℕ} {a : Result Claim Refusal} → ClaimsBody g w r w' a → ClaimsByState g w r n incoming w' a
     state_claimed e y = ready_claimed (sym of_state ∙ ready) (eqb-true incoming m (sym test ∙ e) ∙ all_edges) y
 
-    pub state_waits : same ≡ false → ClaimsByState g w r n incoming w Unclaimed
+    pub state_waits : same ≡ false → ClaimsByState g w r n incoming w (Ok Unclaimed)
     state_waits e = ready_waits (sym of_state ∙ ready) (λ z. eqb-false incoming m (sym test ∙ e) (z ∙ sym all_edges)) refl
 
-  pub other_waits : (state ≡ kind_ready → ⊥) → ClaimsByState g w r n incoming w Unclaimed
+  pub other_waits : (state ≡ kind_ready → ⊥) → ClaimsByState g w r n incoming w (Ok Unclaimed)
   other_waits d = not_ready (λ z. d (of_state ∙ z)) refl

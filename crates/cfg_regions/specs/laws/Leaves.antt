@@ -5,7 +5,7 @@ use Rattle.meaning.specs.Graph.{Graph, region, edges_of}
 use Rattle.meaning.specs.Lists.{pick}
 use Rattle.record.specs.Stands.{Stands}
 use Rattle.state_regions.specs.declared.cases.Case.{Case}
-use Rattle.state_words.specs.declared.defined.Made.{Made}
+use Rattle.state_words.specs.Totals.{Made}
 use Rattle.state_words.specs.Sections.{word, stored, head, children, bodies, cases, bundles, set_starts, set_lengths}
 use Rattle.state_nodes.specs.NodeTables.{inserted}
 use Rattle.state_sets.specs.SetTables.{swapped, bundle_copied, bundle_at, bundle_words, shifted, shift_removed}

@@ -1,5 +1,4 @@
 use Rattle.cfg_start.specs.laws.paths.InitialStateLaws.{started_by}
-use borrow.Author.Rules.{rules}
 use Rattle.cfg_start.proofs.initial_state.Goals as goal
 
 pub returns : goal.returns

@@ -1,9 +1,5 @@
-use mathlib.Core.Path.{◌≡◌}
-use Prim.Native.Nat.{◌-◌}
-use Rattle.state_words.specs.Sections.{kinds, filled}
-use Rattle.state_words.specs.laws.Stored.{fill_start, fill_turn, fill_stop}
-use Rattle.cfg_start.specs.InitialState.{nothing_begun}
-use borrow.Author.Rules.{rules}
+use Rattle.state_words.specs.Sections.{kinds}
+use Rattle.state_words.specs.laws.Stored.{fill_turn, fill_stop}
 use Rattle.cfg_start.proofs.start_kinds.Goals as goal
 
 pub loop-r-preserved : goal.loop-r-preserved

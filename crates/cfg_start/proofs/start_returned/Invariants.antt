@@ -1,12 +1,6 @@
-use Prim.Native.Nat.{◌-◌}
 use Rattle.record.specs.Stands.{OfRecord}
 use Rattle.cfg_start.specs.InitialState.{ReturnedLeft}
-use Rattle.cfg_start.specs.laws.paths.InitialStateLaws.{returned_start, returned_turn, returned_stop}
-use borrow.Author.Rules.{rules}
 use Rattle.cfg_start.proofs.start_returned.Given as goal
 
 abbrev pub invariant-loop-k : goal.invariant-loop-k
 invariant-loop-k l = OfRecord l.initial.w (λ g. ReturnedLeft g l.k l.initial.w l.w)
-
-abbrev pub decreases-loop-k : goal.decreases-loop-k
-decreases-loop-k l = l.few - l.k

@@ -1,9 +1,6 @@
-use mathlib.Core.Path.{◌≡◌}
-use Prim.Native.Nat.{◌-◌}
-use Rattle.state_words.specs.Sections.{set_starts, filled}
+use Rattle.state_words.specs.Sections.{set_starts}
 use Rattle.state_sets.specs.SetTables.{slot}
-use Rattle.state_words.specs.laws.Stored.{fill_start, fill_turn, fill_stop}
-use borrow.Author.Rules.{rules}
+use Rattle.state_words.specs.laws.Stored.{fill_turn, fill_stop}
 use Rattle.cfg_start.proofs.start_slots.Goals as goal
 
 pub loop-a-preserved : goal.loop-a-preserved

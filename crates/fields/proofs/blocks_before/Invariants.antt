@@ -1,9 +1,5 @@
-use Prim.Native.Nat.{◌-◌, ◌≤◌}
 use Rattle.fields.specs.ByNumber.{BlocksBefore}
 use Rattle.fields.proofs.blocks_before.Given as goal
 
 abbrev pub invariant-loop-i : goal.invariant-loop-i
-invariant-loop-i l = BlocksBefore l.w l.i l.sum × (l.i ≤ l.r)
-
-abbrev pub decreases-loop-i : goal.decreases-loop-i
-decreases-loop-i l = l.r - l.i
+invariant-loop-i l = BlocksBefore l.w l.i l.sum

@@ -1,5 +1,5 @@
 use mathlib.Core.Path.{◌≡◌}
-use Prim.Native.Nat.{◌≤◌, ◌-◌, ◌+◌, ◌*◌}
+use Prim.Native.Nat.{◌≤◌, ◌+◌, ◌*◌}
 use lib.ListN.{length, drop}
 use Rattle.meaning.specs.Graph.{region}
 use Rattle.format.specs.References.{instructions}
@@ -8,8 +8,5 @@ use Rattle.fields.proofs.instruction_count.Given as goal
 
 abbrev pub invariant-loop-b : goal.invariant-loop-b
 invariant-loop-b l =
-    (l.b ≤ l.n) × (l.sum ≤ 65535 * l.b) × OfRecord l.w (λ g. l.sum + length (instructions (drop l.b (region g l.r).blocks)) ≡ length
+    (l.sum ≤ 65535 * l.b) × OfRecord l.w (λ g. l.sum + length (instructions (drop l.b (region g l.r).blocks)) ≡ length
     (instructions (region g l.r).blocks))
-
-abbrev pub decreases-loop-b : goal.decreases-loop-b
-decreases-loop-b l = l.n - l.b

@@ -1,5 +1,5 @@
 use mathlib.Core.Path.{◌≡◌}
-use Prim.Native.Nat.{◌≤◌, ◌-◌, ◌*◌}
+use Prim.Native.Nat.{◌≤◌, ◌*◌}
 use Rattle.meaning.specs.Graph.{region}
 use Rattle.record.specs.Stands.{OfRecord}
 use Rattle.fields.specs.ByNumber.{instructions_before}
@@ -7,7 +7,4 @@ use Rattle.fields.proofs.instructions_before.Given as goal
 
 abbrev pub invariant-loop-q : goal.invariant-loop-q
 invariant-loop-q l =
-    (l.q ≤ l.b) × (l.instructions ≤ 65535 * l.q) × OfRecord l.w (λ g. l.instructions ≡ instructions_before (region g l.r).blocks l.q)
-
-abbrev pub decreases-loop-q : goal.decreases-loop-q
-decreases-loop-q l = l.b - l.q
+    (l.instructions ≤ 65535 * l.q) × OfRecord l.w (λ g. l.instructions ≡ instructions_before (region g l.r).blocks l.q)

@@ -8,5 +8,5 @@ returns-then-r-word_at c g s =
     c.word_at-then-r-word_at.ensures ∙ rw c.indexed.ensures
     (picked _ _ (is_below c.if-r-word_at.true c.word_at.ensures) ∙ limit_is s _)
 
-pub returns : goal.returns
-returns c g s = passed_over _ _ (not_below c.if-r-word_at.false c.word_at.ensures) ∙ limit_is s _
+pub returns-else-r-word_at : goal.returns-else-r-word_at
+returns-else-r-word_at c g s = passed_over _ _ (not_below c.if-r-word_at.false c.word_at.ensures) ∙ limit_is s _

@@ -1,5 +1,4 @@
 use mathlib.Core.Path.{◌≡◌}
-use Prim.Native.Nat.{◌≤◌, ◌-◌}
 use lib.ListN.{get_or, drop}
 use Rattle.meaning.specs.Graph.{region}
 use Rattle.format.specs.References.{instructions, no_instr, instr_type}
@@ -8,8 +7,5 @@ use Rattle.fields.proofs.output_type.Given as goal
 
 abbrev pub invariant-loop-b : goal.invariant-loop-b
 invariant-loop-b l =
-    (l.b ≤ l.n) × (l.left ≤ 65535) × OfRecord l.w (λ g. (get_or (instructions (drop l.b (region g l.r).blocks)) l.left no_instr).type ≡ instr_type
+    OfRecord l.w (λ g. (get_or (instructions (drop l.b (region g l.r).blocks)) l.left no_instr).type ≡ instr_type
     (region g l.r) l.k)
-
-abbrev pub decreases-loop-b : goal.decreases-loop-b
-decreases-loop-b l = l.n - l.b

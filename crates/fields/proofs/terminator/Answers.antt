@@ -4,29 +4,29 @@ use Rattle.fields.specs.laws.Terminators.{kind_by, terminator_by}
 use Rattle.fields.specs.declared.shape.Terminator.TheVariants.{Unreachable, Return, ExitInvocation, Branch, SelectBool, SelectNumber}
 use Rattle.fields.proofs.terminator.Goals as goal
 
-pub returns-then-kind-eq-TERMINATOR_UNREACHABLE : goal.returns-then-kind-eq-TERMINATOR_UNREACHABLE
-returns-then-kind-eq-TERMINATOR_UNREACHABLE c g s = terminator_by s _ c.indexed-p.ensures c.word_at-kind.ensures Unreachable c.if-kind-eq-TERMINATOR_UNREACHABLE.true refl
+pub returns-in-0 : goal.returns-in-0
+returns-in-0 c g s = terminator_by s _ c.indexed-p.ensures c.word_at.ensures Unreachable c.in-0.is refl
 
-pub returns-then-kind-eq-TERMINATOR_RETURN : goal.returns-then-kind-eq-TERMINATOR_RETURN
-returns-then-kind-eq-TERMINATOR_RETURN c g s =
-    terminator_by s _ c.indexed-p.ensures c.word_at-kind.ensures Return c.if-kind-eq-TERMINATOR_RETURN.true refl
+pub returns-in-1 : goal.returns-in-1
+returns-in-1 c g s =
+    terminator_by s _ c.indexed-p.ensures c.word_at.ensures Return c.in-1.is refl
 
-pub returns-then-kind-eq-TERMINATOR_EXIT : goal.returns-then-kind-eq-TERMINATOR_EXIT
-returns-then-kind-eq-TERMINATOR_EXIT c g s =
-    terminator_by s _ c.indexed-p.ensures c.word_at-kind.ensures (ExitInvocation _) c.if-kind-eq-TERMINATOR_EXIT.true
-    (sym c.word_at.ensures)
+pub returns-in-2 : goal.returns-in-2
+returns-in-2 c g s =
+    terminator_by s _ c.indexed-p.ensures c.word_at.ensures (ExitInvocation _) c.in-2.is
+    (sym c.word_at-in-2.ensures)
 
-pub returns-then-kind-eq-TERMINATOR_BRANCH : goal.returns-then-kind-eq-TERMINATOR_BRANCH
-returns-then-kind-eq-TERMINATOR_BRANCH c g s =
-    terminator_by s _ c.indexed-p.ensures c.word_at-kind.ensures Branch c.if-kind-eq-TERMINATOR_BRANCH.true refl
+pub returns-in-3 : goal.returns-in-3
+returns-in-3 c g s =
+    terminator_by s _ c.indexed-p.ensures c.word_at.ensures Branch c.in-3.is refl
 
-pub returns-then-kind-eq-TERMINATOR_BOOL : goal.returns-then-kind-eq-TERMINATOR_BOOL
-returns-then-kind-eq-TERMINATOR_BOOL c g s =
-    terminator_by s _ c.indexed-p.ensures c.word_at-kind.ensures SelectBool c.if-kind-eq-TERMINATOR_BOOL.true refl
+pub returns-in-4 : goal.returns-in-4
+returns-in-4 c g s =
+    terminator_by s _ c.indexed-p.ensures c.word_at.ensures SelectBool c.in-4.is refl
 
-pub returns : goal.returns
-returns c g s =
+pub returns-in_default : goal.returns-in_default
+returns-in_default c g s =
     let bound = kind_by s _ c.indexed-p.ensures
-    c.word_at-kind.ensures in
+    c.word_at.ensures in
     terminator_by s _ c.indexed-p.ensures
-    c.word_at-kind.ensures SelectNumber (omega arith) refl
+    c.word_at.ensures SelectNumber (omega arith) refl

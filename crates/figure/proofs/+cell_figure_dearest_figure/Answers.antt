@@ -1,14 +1,17 @@
 -- The three functions of the figure meet their contracts, in one induction: each goes on with a smaller handle.
-use Rattle.std.proofs.Common.{arith}
+use Rattle.state_nodes.specs.laws.CellTagsBack.{tag_is, tag_not}
+use mathlib.Core.Path.{refl}
+use Rattle.std.proofs.Common.{arith, ◌∙◌}
+use borrow.Author.Rules.{rules}
 use Rattle.state_lists.specs.laws.CellByCellLaws.{named_below, before_below}
 use Rattle.figure.specs.laws.Steps.{dearest_turn, dearest_all, cell_blocks, cell_select, cell_loop, cell_other}
 use Rattle.figure.specs.laws.Steps.{passed_turn, passed_all}
 use Rattle.figure.proofs.+cell_figure_dearest_figure.Goals as goal
 
 -- ---- A cell.
-pub cell_figure-returns-then-tag-eq-BLOCKS : goal.cell_figure-returns-then-tag-eq-BLOCKS
-cell_figure-returns-then-tag-eq-BLOCKS t c =
-    cell_blocks c.cell_tag-tag.ensures c.if-tag-eq-BLOCKS.true c.blocks_region.ensures c.blocks_figure.ensures c.held_at_limit.ensures
+pub cell_figure-returns-in-Blocks : goal.cell_figure-returns-in-Blocks
+cell_figure-returns-in-Blocks t c =
+    cell_blocks refl (tag_is c.cell_tag.ensures c.in-Blocks.is) c.blocks_region.ensures c.blocks_figure.ensures c.min.ensures
 
 pub cell_figure-figure-requires : goal.cell_figure-figure-requires
 cell_figure-figure-requires t c = (omega (arith, named_below _ c.join_list.ensures c.requires), tt)
@@ -16,22 +19,22 @@ cell_figure-figure-requires t c = (omega (arith, named_below _ c.join_list.ensur
 pub cell_figure-dearest-requires : goal.cell_figure-dearest-requires
 cell_figure-dearest-requires t c = (omega (arith, named_below _ c.select_cases.ensures c.requires), tt)
 
-pub cell_figure-returns-then-tag-eq-SELECT : goal.cell_figure-returns-then-tag-eq-SELECT
-cell_figure-returns-then-tag-eq-SELECT t c =
-    cell_select c.cell_tag-tag.ensures c.test_cost-test.ensures c.if-tag-eq-SELECT.true c.select_cases.ensures c.dearest.ensures
-    c.held_at_limit-then-tag-eq-SELECT.ensures
+pub cell_figure-returns-in-Select : goal.cell_figure-returns-in-Select
+cell_figure-returns-in-Select t c =
+    cell_select refl (λ g s. c.from-test.ensures ∙ c.test_cost.ensures g s) (tag_is c.cell_tag.ensures c.in-Select.is) c.select_cases.ensures c.dearest.ensures
+    c.min-in-Select.ensures
 
-pub cell_figure-figure-requires-then-tag-eq-LOOP : goal.cell_figure-figure-requires-then-tag-eq-LOOP
-cell_figure-figure-requires-then-tag-eq-LOOP t c = (omega (arith, named_below _ c.loop_body.ensures c.requires), tt)
+pub cell_figure-figure-requires-in-Loop : goal.cell_figure-figure-requires-in-Loop
+cell_figure-figure-requires-in-Loop t c = (omega (arith, named_below _ c.loop_body.ensures c.requires), tt)
 
-pub cell_figure-returns-then-tag-eq-LOOP : goal.cell_figure-returns-then-tag-eq-LOOP
-cell_figure-returns-then-tag-eq-LOOP t c =
-    cell_loop c.cell_tag-tag.ensures c.test_cost-test.ensures c.if-tag-eq-LOOP.true c.loop_header.ensures c.limit-limit.ensures
-    c.loop_body.ensures c.figure-then-tag-eq-LOOP.ensures c.held_at_limit-then-tag-eq-LOOP.ensures
+pub cell_figure-returns-in-Loop : goal.cell_figure-returns-in-Loop
+cell_figure-returns-in-Loop t c =
+    cell_loop refl (λ g s. c.from-test.ensures ∙ c.test_cost.ensures g s) (tag_is c.cell_tag.ensures c.in-Loop.is) c.loop_header.ensures
+    (λ g s. c.from-limit.ensures ∙ c.limit.ensures g s)
+    c.loop_body.ensures c.figure-in-Loop.ensures c.min-in-Loop.ensures
 
-pub cell_figure-returns : goal.cell_figure-returns
-cell_figure-returns t c =
-    cell_other c.cell_tag-tag.ensures c.if-tag-eq-BLOCKS.false c.if-tag-eq-JOIN.false c.if-tag-eq-SELECT.false c.if-tag-eq-LOOP.false
+pub cell_figure-returns-in_default : goal.cell_figure-returns-in_default
+cell_figure-returns-in_default t c = cell_other refl (tag_not c.cell_tag.ensures (search rules)) (tag_not c.cell_tag.ensures (search rules)) (tag_not c.cell_tag.ensures (search rules)) (tag_not c.cell_tag.ensures (search rules))
 
 -- ---- The dearest of a list of cases.
 pub dearest-figure-requires : goal.dearest-figure-requires
@@ -43,7 +46,7 @@ dearest-loop-h-smaller t c = named_below _ c.cases_after-h.ensures c.loop-h-test
 
 pub dearest-loop-h-preserved : goal.dearest-loop-h-preserved
 dearest-loop-h-preserved t c =
-    dearest_turn c.loop-h.invariant c.loop-h-test.true c.children_of_case.ensures c.figure.ensures c.larger-most.ensures
+    dearest_turn c.loop-h.invariant c.loop-h-test.true c.children_of_case.ensures c.figure.ensures c.max-most.ensures
     c.cases_after-h.ensures
 
 pub dearest-returns : goal.dearest-returns
@@ -55,7 +58,7 @@ figure-loop-h-smaller t c = before_below _ c.list_before-h.ensures c.loop-h-test
 
 pub figure-loop-h-preserved : goal.figure-loop-h-preserved
 figure-loop-h-preserved t c =
-    passed_turn c.loop-h.invariant c.loop-h-test.true c.cell_figure.ensures c.held_at_limit-sum.ensures c.list_before-h.ensures
+    passed_turn c.loop-h.invariant c.loop-h-test.true c.cell_figure.ensures c.min-sum.ensures c.list_before-h.ensures
 
 pub figure-returns : goal.figure-returns
 figure-returns t c = passed_all c.loop-h.invariant c.loop-h-test.false

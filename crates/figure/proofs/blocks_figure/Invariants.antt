@@ -1,6 +1,6 @@
 -- `blocks_figure` meets its contract. The loop's invariant: what is summed and what is left are the whole.
 use mathlib.Core.Path.{◌≡◌}
-use Prim.Native.Nat.{◌≤◌, ◌-◌, ◌+◌, ◌*◌}
+use Prim.Native.Nat.{◌≤◌, ◌+◌, ◌*◌}
 use lib.ListN.{drop}
 use Rattle.meaning.specs.Lists.{total}
 use Rattle.meaning.specs.Graph.{region}
@@ -10,9 +10,5 @@ use Rattle.figure.proofs.blocks_figure.Given as goal
 
 abbrev pub invariant-loop-b : goal.invariant-loop-b
 invariant-loop-b l =
-    (l.b ≤ l.n)
-    × (l.sum ≤ 4294836225 * l.b)
+    (l.sum ≤ 4294836225 * l.b)
     × OfRecord l.w (λ g. l.sum + total block_cost (drop l.b (region g l.r).blocks) ≡ total block_cost (region g l.r).blocks)
-
-abbrev pub decreases-loop-b : goal.decreases-loop-b
-decreases-loop-b l = l.n - l.b

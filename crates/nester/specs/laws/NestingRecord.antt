@@ -1,5 +1,5 @@
 -- From what nesting left in the words to the answer for a record.
-use Rattle.std.specs.Prelude.{◌≡◌, refl, Bool, true, false, List, [], ◌∷◌, ◌++◌, ℕ, ◌≤◌, ◌<◌, min, length, drop}
+use Rattle.std.specs.Prelude.{◌≡◌, refl, Bool, true, false, List, [], ◌∷◌, ◌++◌, ℕ, ◌≤◌, ◌<◌, min, length, drop, Result, Ok, Err}
 use Rattle.std.proofs.Common.{sym, ap, ◌∙◌, arith, le-leb}
 use Rattle.std.proofs.Math.Decide.{dec_lt}
 use Rattle.std.proofs.lemmas.Bool.{lt-leb}
@@ -24,27 +24,25 @@ use Rattle.state_words.specs.Sections as sections
 use Rattle.state_shown.specs.Front.{SameFront}
 use Rattle.state_shown.specs.Cells.{ShowsNodes}
 use Rattle.state_shown.specs.States.{ShowsBody}
-use Rattle.cfg.specs.declared.func.Nested as code
-use Rattle.cfg.specs.declared.func.Nested.TheVariants as outcomes
+use Rattle.cfg.specs.declared.func.Outcome as code
+use Rattle.cfg.specs.declared.func.Outcome.TheVariants as outcomes
 use Rattle.cfg.specs.FuncShown.{ShowsNested, outcome_code, shows_untouched, shows_nested, shows_refused}
 use Rattle.figure.specs.Figured.{Figured}
 use Rattle.sheet_words.specs.Parts.{Concluded}
-use Rattle.sheet.specs.declared.whole.Sheet as code_sheet
-use Rattle.sheet.specs.declared.whole.Sheet.TheVariants.{Words, TooFew}
+use Rattle.sheet.specs.declared.whole.TooFew.{TooFew}
 use Rattle.sheet.specs.Written.{ShowsAnswer, lent, SheetWritten, sheet_written, too_few, WritesSheet}
 use Rattle.sheet.specs.Written as written
-use Rattle.nester.specs.declared.SheetAnswer.{SheetAnswer}
-use Rattle.nester.specs.declared.SheetAnswer.TheVariants.{Sheet, Refused}
 use Rattle.nester.specs.Answers.{Ends, words_if_fit, words_if_figured, record_words, WritesAnswer, FormsAnswer, NestsRecord}
-use Rattle.nester.specs.Answers.{refused_with}
+use Rattle.store.specs.Refusals.{refused_as}
 use Rattle.store.specs.declared.refusals.Refusal.{Refusal}
+use Rattle.store.specs.declared.refusals.Refusal.TheVariants.{TooFewWords, FigureTooLarge}
 use Rattle.state_words.specs.Rows.{kind_claimed, region_kind}
 
 module _ {b : format.Answer (List ℕ)} {out out' : List ℕ} where
-  pub ends_sheet : {ws : List ℕ} {n : ℕ} → b ≡ accepted ws → n ≡ length ws → out' ≡ ws ++ drop (length ws) out → Ends b out out' (Sheet n)
+  pub ends_sheet : {ws : List ℕ} {n : ℕ} → b ≡ accepted ws → n ≡ length ws → out' ≡ ws ++ drop (length ws) out → Ends b out out' (Ok n)
   ends_sheet e size d = record { answer = rw (e, size); words = rw e d }
 
-  pub ends_refused : {n x : ℕ} → b ≡ refused n x → out' ≡ out → Ends b out out' (Refused n x)
+  pub ends_refused : {why : Refusal} → b ≡ refused_as why → out' ≡ out → Ends b out out' (Err why)
   ends_refused e d = record { answer = rw e; words = rw e d }
 
 -- ---- Refusal 10.
@@ -53,19 +51,19 @@ fit_by s b = if_accepted (elim b as (λ b. format.Answer sheet.Sheet) [ true ↦
     accepted (sheet_words t)
 
 module _ (s : sheet.Sheet) {out out' : List ℕ} where
-  fits : {n : ℕ} → SheetWritten (sheet_words s) out out' (Words n) → Ends (words_if_fit (lent out) s) out out' (Sheet n)
+  fits : {n : ℕ} → SheetWritten (sheet_words s) out out' (Ok n) → Ends (words_if_fit (lent out) s) out out' (Ok n)
   fits (sheet_written size few e) =
       ends_sheet {ws = sheet_words s} (ap (fit_by s) (le-leb (length (sheet_words s)) (lent out) few)) size e
 
-  fits_not : SheetWritten (sheet_words s) out out' TooFew → Ends (words_if_fit (lent out) s) out out' (Refused too_few_words 0)
-  fits_not (too_few few e) = ends_refused {n = too_few_words} {x = 0} (ap (fit_by s) (lt-leb (length (sheet_words s)) (lent out) few)) e
+  fits_not : {short : TooFew} → SheetWritten (sheet_words s) out out' (Err short) → Ends (words_if_fit (lent out) s) out out' (Err TooFewWords)
+  fits_not (too_few few e) = ends_refused {why = TooFewWords} (ap (fit_by s) (lt-leb (length (sheet_words s)) (lent out) few)) e
 
-module _ (w : List ℕ) (outcome figure : ℕ) {out out' : List ℕ} {y : code_sheet.Sheet}
+module _ (w : List ℕ) (outcome figure : ℕ) {out out' : List ℕ} {y : Result ℕ TooFew}
     (wrote : WritesSheet w outcome figure out out' y) where
-  pub written_words : {n : ℕ} → y ≡ Words n → WritesAnswer w outcome figure out out' (Sheet n)
+  pub written_words : {n : ℕ} → y ≡ Ok n → WritesAnswer w outcome figure out out' (Ok n)
   written_words e g s c x shown f = fits (sheet_of g x) (rw e at (wrote g s c x shown f))
 
-  pub written_few : y ≡ TooFew → WritesAnswer w outcome figure out out' (Refused too_few_words 0)
+  pub written_few : {short : TooFew} → y ≡ Err short → WritesAnswer w outcome figure out out' (Err TooFewWords)
   written_few e g s c x shown f = fits_not (sheet_of g x) (rw e at (wrote g s c x shown f))
 
 -- ---- Refusal 11.
@@ -109,12 +107,12 @@ module _ (w : List ℕ) (outcome : ℕ) {entry list cost : ℕ} (is_entry : OfRe
       let at : ShowsNodes g (section w cells) list form.children = rw (handle, is_entry g stands) form.nodes in
       figured.shown g stands form.children at ∙ rw form.figure
 
-  pub too_dear : (out : List ℕ) → cost ≡ 4294967296 → FormsAnswer w outcome out out (Refused figure_too_large 0)
+  pub too_dear : (out : List ℕ) → cost ≡ 4294967296 → FormsAnswer w outcome out out (Err FigureTooLarge)
   too_dear out e g s c x shown a b =
       let is = cost_is g s c x shown a b in
       ends_refused (figure_out (sheet_of g x) (omega arith) (lent out)) refl
 
-  pub within_figure : {out out' : List ℕ} {a : SheetAnswer} → (cost ≡ 4294967296 → ⊥)
+  pub within_figure : {out out' : List ℕ} {a : Result ℕ Refusal} → (cost ≡ 4294967296 → ⊥)
       → WritesAnswer w outcome cost out out' a → FormsAnswer w outcome out out' a
   within_figure {out} d p g s c x shown a b =
       let is = cost_is g s c x shown a b in
@@ -139,12 +137,11 @@ record Answered (g : Graph) (w : List ℕ) (n : ℕ) : Type 0 where
   pub shows : ShowsAnswer g w state nest n
 
 -- The number of an outcome.
-abbrev pub number_of : code.Nested → ℕ
+abbrev pub number_of : code.Outcome → ℕ
 number_of outcomes.Untouched = outcome_untouched
 number_of outcomes.Whole = outcome_whole
 number_of outcomes.Closed = outcome_closed
 number_of outcomes.Leftover = outcome_leftover
-number_of (outcomes.Refused y) = 4
 
 module _ {g : Graph} {w : List ℕ} {s : NestState} (c : Concluded g w s) (kind : region_kind w g.entry ≡ kind_claimed) (ks : Nodes) where
   leaves : (d : DeferredEdgeBundleSet) {o : Outcome} → outcome_of d ≡ o → ShowsBody g w g.entry (region_body ks d)
@@ -181,8 +178,8 @@ no_figure (written.shows_closed body e) d = absurd (d (omega arith) (omega arith
 no_figure (written.shows_leftover k body e) d = rw e
 
 module _ {g : Graph} (valid : Valid g) {before w : List ℕ} where
-  answered : {a : code.Nested} → ShowsNested g before w (structurize_func g) a → {n : ℕ} → number_of a ≡ n → n ≤ 3 → Answered g w n
-  answered (shows_untouched front st b) e few =
+  answered : {a : code.Outcome} → ShowsNested g before w (structurize_func g) (Ok a) → {n : ℕ} → number_of a ≡ n → Answered g w n
+  answered (shows_untouched front st b) e =
       rw (← e) (record {
         state = initial_state g;
         nest = conclude_by g (initial_state g) ⟨⟩ [] untouched;
@@ -190,20 +187,19 @@ module _ {g : Graph} (valid : Valid g) {before w : List ℕ} where
         nests = b;
         shows = written.shows_untouched refl;
       })
-  answered (shows_nested {s} {x} front st chains kind body b a) e few =
+  answered (shows_nested {s} {x} front st chains kind body b a) e =
       rw (← e, a) (by_set (record { valid = valid; state = st; chains = chains }) kind x.children x.deferred_edges body b)
-  answered (shows_refused front b) e few = absurd (omega arith)
 
-  front_of : {a : code.Nested} → ShowsNested g before w (structurize_func g) a → SameFront before w
+  front_of : {a : Result code.Outcome Refusal} → ShowsNested g before w (structurize_func g) a → SameFront before w
   front_of (shows_untouched front st b) = front
   front_of (shows_nested front st chains kind body b a) = front
   front_of (shows_refused front b) = front
 
-  module _ {a : code.Nested} (shown : ShowsNested g before w (structurize_func g) a) {out out' : List ℕ} {b : SheetAnswer} where
-    pub nested_unfigured : {n : ℕ} → number_of a ≡ n → n ≤ 3 → (1 ≤ n → n ≤ 2 → ⊥) → WritesAnswer w n 0 out out' b
+  module _ {a : code.Outcome} (shown : ShowsNested g before w (structurize_func g) (Ok a)) {out out' : List ℕ} {b : Result ℕ Refusal} where
+    pub nested_unfigured : {n : ℕ} → number_of a ≡ n → (1 ≤ n → n ≤ 2 → ⊥) → WritesAnswer w n 0 out out' b
         → NestsRecord g before w out out' b
-    nested_unfigured e few d p =
-        let y = answered shown e few in
+    nested_unfigured e d p =
+        let y = answered shown e in
         let none = no_figure y.shows d in
         let small : (sheet_of g y.nest).figure ≤ 4294967295 = omega arith in
         record {
@@ -214,27 +210,17 @@ module _ {g : Graph} (valid : Valid g) {before w : List ℕ} where
 
     pub nested_formed : {n : ℕ} → number_of a ≡ n → 1 ≤ n → n ≤ 2 → FormsAnswer w n out out' b → NestsRecord g before w out out' b
     nested_formed e low high p =
-        let y = answered shown e (omega arith) in
+        let y = answered shown e in
         record {
           ends = rw (words_for g (lent out) y.nests) (p g y.state y.concluded y.nest y.shows low high);
           front = front_of shown;
         }
 
-  pub nested_refused : {a : code.Nested} → ShowsNested g before w (structurize_func g) a → {y : Refusal} → a ≡ outcomes.Refused y
-      → (out : List ℕ) {b : SheetAnswer} → b ≡ refused_with y → NestsRecord g before w out out b
+  pub nested_refused : {why : Refusal} → ShowsNested g before w (structurize_func g) (Err why) → (out : List ℕ)
+      → NestsRecord g before w out out (Err why)
   unfolding record_words
-  nested_refused (shows_untouched front st b) e out r = absurd (clash (cc))
-  nested_refused (shows_nested {x = x} front st chains kind body b a) e out r =
-      absurd (not_refused (outcome_of x.deferred_edges) (sym a ∙ e))
-    where
-      not_refused : (o : Outcome) {y : Refusal} → outcome_code o ≡ outcomes.Refused y → ⊥
-      not_refused untouched e = clash (cc)
-      not_refused whole e = clash (cc)
-      not_refused closed e = clash (cc)
-      not_refused leftover e = clash (cc)
-  nested_refused (shows_refused {y = why} front b) {y} e out r =
-      let p : why ≡ y = cc in
-      rw (r, ← p) (record {
+  nested_refused (shows_refused front b) out =
+      record {
         ends = ends_refused (ap (λ z. if_accepted z λ u. words_if_figured (lent out) (sheet_of g u)) b) refl;
         front = front;
-      })
+      }

@@ -1,5 +1,5 @@
 -- The answer for a store, by what accepting it answered.
-use Rattle.std.specs.Prelude.{◌≡◌, List, ℕ, ◌≤◌, length}
+use Rattle.std.specs.Prelude.{◌≡◌, List, ℕ, ◌≤◌, length, Result, Ok, Err}
 use Rattle.std.proofs.Math.Path.{refl}
 use Rattle.std.proofs.Common.{sym, ap, ◌∙◌, arith}
 use Rattle.meaning.specs.Graph.{Graph}
@@ -14,15 +14,14 @@ use Rattle.record.specs.Outcome.{forget}
 use Rattle.nesting.specs.Nesting.{Nested, structurize_func}
 use Rattle.nesting.specs.Sheet.{Sheet, answer, answer_words, sheet_for, sheet_of, figure_fits, words_fit, sheet_words}
 use Rattle.follows.proofs.sound.Sound.{sound}
-use Rattle.accept.specs.Accepts.{Accepts, accept_answered}
-use Rattle.accept.specs.declared.Accepted.{Accepted}
-use Rattle.accept.specs.declared.Accepted.TheVariants.{Record, Refused as Rejected}
+use Rattle.store.specs.Loaded.{answered}
+use Rattle.store.specs.Refusals.{refused_as}
+use Rattle.store.specs.declared.refusals.Refusal.{Refusal}
+use Rattle.accept.specs.Accepts.{Accepts}
 use Rattle.state_shown.specs.laws.FrontKept.{front_same}
 use Rattle.state_words.specs.Sections.{used}
 use Rattle.cfg_claims.specs.Claims.{Stood}
 use Rattle.sheet.specs.Written.{lent}
-use Rattle.nester.specs.declared.SheetAnswer.{SheetAnswer}
-use Rattle.nester.specs.declared.SheetAnswer.TheVariants.{Refused}
 use Rattle.nester.specs.Answers.{record_words, words_if_figured, words_if_fit, NestsRecord}
 use Rattle.nester.specs.Nests.{Nests}
 use Rattle.nester.specs.laws.NestingRecord.{ends_refused}
@@ -47,13 +46,13 @@ module _ (store : List ℕ) (lent : ℕ) where
           then_words (refused n x) = refl
           then_words (accepted s) = refl
 
-module _ {store w loaded : List ℕ} {v : Accepted} (accepts : Accepts store w loaded v) where
+module _ {store w loaded : List ℕ} {v : Result (Unit {0}) Refusal} (accepts : Accepts store w loaded v) where
   -- A store or a record that is refused.
-  pub nest_refused : (out : List ℕ) {n x : ℕ} → v ≡ Rejected n x → Nests store w loaded out out (Refused n x)
-  nest_refused out {n} {x} e =
+  pub nest_refused : (out : List ℕ) {why : Refusal} → v ≡ Err why → Nests store w loaded out out (Err why)
+  nest_refused out {why} e =
       record {
         ends = ends_refused
-            (words_refused store (lent out) (was_refused (accept store) (sym accepts.answer ∙ ap accept_answered e))) refl;
+            (words_refused store (lent out) (was_refused (accept store) (sym accepts.answer ∙ ap answered e))) refl;
         loaded = loaded;
         verdict = v;
         accepts = accepts;
@@ -62,9 +61,9 @@ module _ {store w loaded : List ℕ} {v : Accepted} (accepts : Accepts store w l
         sound = sound store (lent out);
       }
     where
-      was_refused : (b : format.Answer Graph) → forget b ≡ refused n x → b ≡ refused n x
+      was_refused : (b : format.Answer Graph) → forget b ≡ refused_as why → b ≡ refused_as why
       was_refused (accepted g) z = absurd (clash (cc))
-      was_refused (refused m y) z = let p : m ≡ n = cc in let q : y ≡ x = cc in rw (p, q)
+      was_refused (refused m y) z = cc
 
   pub record Accepting : Type 0 where
     pub graph : Graph
@@ -72,20 +71,20 @@ module _ {store w loaded : List ℕ} {v : Accepted} (accepts : Accepts store w l
     pub stands : Stands loaded graph
     pub valid : Valid graph
 
-  pub accepting : v ≡ Record → Accepting
-  accepting e = go (accept store) refl (sym accepts.answer ∙ ap accept_answered e)
+  pub accepting : v ≡ Ok tt → Accepting
+  accepting e = go (accept store) refl (sym accepts.answer ∙ ap answered e)
     where
       go : (b : format.Answer Graph) → accept store ≡ b → forget b ≡ accepted tt → Accepting
       go (accepted g) z y = record { graph = g; is = z; stands = accepts.stands g z; valid = accept_valid store g z }
       go (refused n x) z y = absurd (clash (cc))
 
-  pub stood_loaded : v ≡ Record → used ≤ length w → Stood loaded
+  pub stood_loaded : v ≡ Ok tt → used ≤ length w → Stood loaded
   stood_loaded e room =
       let x = accepting e in
       let size = accepts.size in
       record { graph = x.graph; stands = x.stands; room = omega arith }
 
-  pub nest_accepted : {w' out out' : List ℕ} {a : SheetAnswer} → v ≡ Record
+  pub nest_accepted : {w' out out' : List ℕ} {a : Result ℕ Refusal} → v ≡ Ok tt
       → OfRecord loaded (λ g. Valid g → NestsRecord g loaded w' out out' a) → Nests store w w' out out' a
   nest_accepted {out = out} e p =
       let x = accepting e in

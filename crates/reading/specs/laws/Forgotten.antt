@@ -34,34 +34,34 @@ follow_follow (bad n) j k = refl
 
 -- A word of the record is one of the lent words, in front of the end.
 module _ (w : List ℕ) (end at : ℕ) where
-  pub word_in : at < end → at < length w → got (get_or w at 0) (at + 1) ≡ word (take end w) at
+  pub word_in : at < end → at < length w → word (take end w) at ≡ got (get_or w at 0) (at + 1)
   unfolding word
   word_in h l = rw (word, lt-ltb at (length (take end w)) (omega (arith, length-take end w)), get_or-take end w at 0 h)
 
-  outside : length (take end w) ≤ at → bad wrong_word_count ≡ word (take end w) at
+  outside : length (take end w) ≤ at → word (take end w) at ≡ bad wrong_word_count
   unfolding word
   outside h = rw (word, le-ltb at (length (take end w)) h)
 
-  pub word_out : end ≤ at → bad wrong_word_count ≡ word (take end w) at
+  pub word_out : end ≤ at → word (take end w) at ≡ bad wrong_word_count
   word_out h = outside (omega (arith, length-take end w))
 
-  pub word_past : length w ≤ at → bad wrong_word_count ≡ word (take end w) at
+  pub word_past : length w ≤ at → word (take end w) at ≡ bad wrong_word_count
   word_past h = outside (omega (arith, length-take end w))
 
 module _ (low high : ℕ) (ws : List ℕ) (at : ℕ) where
-  pub within_stop : {m : ℕ} → word ws at ≡ bad m → bad m ≡ within low high ws at
+  pub within_stop : {m : ℕ} → word ws at ≡ bad m → within low high ws at ≡ bad m
   unfolding within
   within_stop h = rw h
 
-  pub within_low : {n e : ℕ} → word ws at ≡ got n e → n < low → bad out_of_range ≡ within low high ws at
+  pub within_low : {n e : ℕ} → word ws at ≡ got n e → n < low → within low high ws at ≡ bad out_of_range
   unfolding within
   within_low {n} h l = rw (h, lt-leb low n l)
 
-  pub within_high : {n e : ℕ} → word ws at ≡ got n e → low ≤ n → high < n → bad out_of_range ≡ within low high ws at
+  pub within_high : {n e : ℕ} → word ws at ≡ got n e → low ≤ n → high < n → within low high ws at ≡ bad out_of_range
   unfolding within
   within_high {n} h l m = rw (h, le-leb low n l, lt-leb n high m)
 
-  pub within_in : {n e : ℕ} → word ws at ≡ got n e → low ≤ n → n ≤ high → got n e ≡ within low high ws at
+  pub within_in : {n e : ℕ} → word ws at ≡ got n e → low ≤ n → n ≤ high → within low high ws at ≡ got n e
   unfolding within
   within_in {n} h l m = rw (h, le-leb low n l, le-leb n high m)
 
@@ -89,16 +89,15 @@ module _ {A : Type 0} {p : Reader A} {ws : List ℕ} {n from : ℕ} where
         place = next_of (p ws at) h ∙ ap (λ i. next (p ws i)) g.place ∙ ap (λ j. after j p ws from) (sym (add-one k));
       }
 
-  pub going_stop : {k at m : ℕ} → Going p ws n from k at → k < n → forget_value (p ws at) ≡ bad m → bad m ≡ forget_value (many n p ws from)
-  going_stop {k} {at} {m} g l h = sym (g.rest ∙ ap (λ j. forget_value (many j p ws at)) (one_less n k l) ∙ many_stop p ws (n - (k + 1))
-      at h)
+  pub going_stop : {k at m : ℕ} → Going p ws n from k at → k < n → forget_value (p ws at) ≡ bad m → forget_value (many n p ws from) ≡ bad m
+  going_stop {k} {at} {m} g l h = g.rest ∙ ap (λ j. forget_value (many j p ws at)) (one_less n k l) ∙ many_stop p ws (n - (k + 1)) at h
 
-  pub going_end : {k at : ℕ} → Going p ws n from k at → n ≤ k → got tt at ≡ forget_value (many n p ws from)
+  pub going_end : {k at : ℕ} → Going p ws n from k at → n ≤ k → forget_value (many n p ws from) ≡ got tt at
   unfolding many
-  going_end {k} {at} g l = sym (g.rest ∙ ap (λ j. forget_value (many j p ws at)) (none_left n k l))
+  going_end {k} {at} g l = g.rest ∙ ap (λ j. forget_value (many j p ws at)) (none_left n k l)
 
 module _ {A : Type 0} (low high : ℕ) (p : Reader A) (ws : List ℕ) (at : ℕ) where
-  pub counted_stop : {m : ℕ} → within low high ws at ≡ bad m → bad m ≡ forget_value (counted low high p ws at)
+  pub counted_stop : {m : ℕ} → within low high ws at ≡ bad m → forget_value (counted low high p ws at) ≡ bad m
   unfolding counted
   counted_stop h = rw h
 

@@ -2,6 +2,9 @@
 use Rattle.std.specs.Prelude.{◌≡◌, refl, Bool, true, false, ◌||◌, List, [], ◌∷◌, ◌++◌, ℕ, zero, suc, ◌+◌, ◌≤◌, ◌<◌, length, get_or, take, eqb, leb}
 use Rattle.std.proofs.Common.{sym, ap, ◌∙◌, arith, add-one, get_or-take, leb-true, leb-false, eq-eqb, ne_eqb}
 use Rattle.std.proofs.Math.Bool.{or-true}
+use Rattle.std.specs.Bool.{MatchBool}
+use Rattle.std.specs.List.{range_with_len, AllWithin, HoldsAt}
+use Rattle.std.proofs.lemmas.List.FromFn.{length-range_with_len, get_or-range_with_len}
 use Rattle.format.specs.Read.{got, word, many}
 use Rattle.meaning.specs.Lists.{is_in, pick, distinct_from}
 use Rattle.meaning.specs.facts.Members.{is_in_snoc}
@@ -18,12 +21,15 @@ first_bound w from n = by_test (stands w from (get_or w (from + n) 0) n)
     by_test true = omega arith
     by_test false = omega arith
 
-pub firsts_next : (w : List ℕ) (from n : ℕ) {k d : ℕ} → k ≡ firsts w from n → d ≡ first w from n → k + d ≡ firsts w from (n + 1)
-unfolding firsts
-firsts_next w from n p q = rw (add-one, p, q)
+-- one word more: it stood before, or it is counted
+module _ (w : List ℕ) (from n : ℕ) {k : ℕ} (so_far : k ≡ firsts w from n) where
+  pub firsts_again : stands w from (get_or w (from + n) 0) n ≡ true → k ≡ firsts w from (n + 1)
+  unfolding firsts first
+  firsts_again h = rw (add-one n, so_far, h) omega arith
 
-pub firsts_end : (w : List ℕ) (from n k : ℕ) {d : ℕ} → n ≤ k → k ≤ n → d ≡ firsts w from n → d ≡ firsts w from k
-firsts_end w from n k p q h = let same : k ≡ n = omega arith in rw same h
+  pub firsts_new : stands w from (get_or w (from + n) 0) n ≡ false → k + 1 ≡ firsts w from (n + 1)
+  unfolding firsts first
+  firsts_new h = rw (add-one n, so_far, h)
 
 -- The n words from a place on.
 unfoldable pub words_from : List ℕ → ℕ → ℕ → List ℕ
@@ -62,20 +68,25 @@ stands_here w from t n k l h =
     sym (stands_more w from t (suc n) k l (ap (λ b. stands w from t n || b) (eq-eqb t (get_or w (from + n) 0) h)
     ∙ or-true (stands w from t n)))
 
-pub stands_not : (w : List ℕ) (from t n : ℕ) → false ≡ stands w from t n → (t ≡ get_or w (from + n) 0 → ⊥) → false ≡ stands w from t (n + 1)
+stands_none : (w : List ℕ) (from t n : ℕ) → ((k : ℕ) → k < n → t ≡ get_or w (from + k) 0 → ⊥) → false ≡ stands w from t n
 unfolding stands
-stands_not w from t n p q = rw (add-one, ← p, ne_eqb t (get_or w (from + n) 0) q)
+stands_none w from t zero h = refl
+stands_none w from t (suc n) h =
+    let before = stands_none w from t n (λ k l. h k (omega arith)) in
+    rw (← before, ne_eqb t (get_or w (from + n) 0) (h n (omega arith)))
 
-pub stands_end : (w : List ℕ) (from t n k : ℕ) → n ≤ k → k ≤ n → false ≡ stands w from t n → false ≡ stands w from t k
-stands_end w from t n k p q h = let same : k ≡ n = omega arith in rw same h
+in_range : (n k : ℕ) → k < n → get_or (range_with_len 0 n) k 0 ≡ k
+in_range n k less = get_or-range_with_len 0 n k 0 less ∙ omega arith
 
-pub first_zero : (w : List ℕ) (from n : ℕ) → stands w from (get_or w (from + n) 0) n ≡ true → 0 ≡ first w from n
-unfolding first
-first_zero w from n h = rw h
-
-pub first_one : (w : List ℕ) (from n : ℕ) → stands w from (get_or w (from + n) 0) n ≡ false → 1 ≡ first w from n
-unfolding first
-first_one w from n h = rw h
+-- what a search from the front answers
+pub stands_by_any : (w : List ℕ) (from t n : ℕ) (r : Bool)
+    → MatchBool r ((k : ℕ) × (k < length (range_with_len 0 n)) × HoldsAt (λ i. t ≡ get_or w (from + i) 0) (range_with_len 0 n) k)
+    (AllWithin (λ i. t ≡ get_or w (from + i) 0 → ⊥) (range_with_len 0 n) 0 (length (range_with_len 0 n))) → r ≡ stands w from t n
+stands_by_any w from t n true (k, below, here) =
+    let less : k < n = omega (arith, length-range_with_len 0 n) in
+    stands_here w from t k n less (rw (in_range n k less) at (here 0))
+stands_by_any w from t n false h =
+    stands_none w from t n (λ k less. rw (in_range n k less) at (h k 0 (omega arith) (omega (arith, length-range_with_len 0 n))))
 
 words_from_front : (w : List ℕ) (from n : ℕ) → words_from w from (suc n) ≡ get_or w from 0 ∷ words_from w (from + 1) n
 unfolding words_from

@@ -1,8 +1,8 @@
 -- Terminators with their values forgotten, in the order in which the code reads them.
 use Rattle.std.specs.Prelude.{◌≡◌, true, false, take, eqb}
-use Rattle.std.proofs.Math.Path.{refl, sym, ap}
+use Rattle.std.proofs.Math.Path.{sym, ap}
 use Rattle.std.proofs.Common.{◌∙◌}
-use mathlib.Core.List.{List, [], ◌∷◌}
+use mathlib.Core.List.{List, []}
 use Prim.Native.Nat.{ℕ, ◌+◌, ◌<◌}
 use Rattle.std.proofs.Math.ListN.{length}
 use Rattle.meaning.specs.Graph.{ControlInst}
@@ -28,28 +28,24 @@ found (got a i) h = record { value = a; is = ap (got a) (got_place h) }
 found (bad n) h = absurd (clash (cc))
 
 module _ (k : ℕ) (ws : List ℕ) (at : ℕ) where
-  pub opcode_none : eqb k terminator_exit ≡ false → got tt at ≡ forget_value (opcode_for k ws at)
+  pub opcode_none : eqb k terminator_exit ≡ false → forget_value (opcode_for k ws at) ≡ got tt at
   unfolding opcode_for
   opcode_none h = rw (opcode_for, h)
 
-  pub opcode_word : eqb k terminator_exit ≡ true → forget_value (many 1 word ws at) ≡ forget_value (opcode_for k ws at)
-  unfolding opcode_for many
-  opcode_word h = rw (opcode_for, h) (one (word ws at))
-    where
-      one : (r : Read ℕ) → forget_value (read_then r λ x i. read_then (many 0 word ws i) λ xs j. got (x ∷ xs) j) ≡ forget_value r
-      one (got x i) = refl
-      one (bad m) = refl
+  pub opcode_word : eqb k terminator_exit ≡ true → forget_value (word ws at) ≡ forget_value (opcode_for k ws at)
+  unfolding opcode_for
+  opcode_word h = rw (opcode_for, h)
 
 -- targets read from the lent words
 module _ (n : ℕ) (w : List ℕ) (end at : ℕ) where
-  pub edges_stop : {m : ℕ} → forget_value (many n word (take end w) at) ≡ bad m → bad m ≡ forget_value (edges_lists n (take end w) at)
+  pub edges_stop : {m : ℕ} → forget_value (many n word (take end w) at) ≡ bad m → forget_value (edges_lists n (take end w) at) ≡ bad m
   unfolding edges_lists
   edges_stop {m} h = by_first (many n word (take end w) at) h
     where
       by_first : (r : Read (List ℕ)) → forget_value r ≡ bad m
-          → bad m ≡ forget_value (read_then r λ ts e. many (length (distinct_from [] ts)) (counted 0 4 read_value) (take end w) e)
+          → forget_value (read_then r λ ts e. many (length (distinct_from [] ts)) (counted 0 4 read_value) (take end w) e) ≡ bad m
       by_first (got ts i) q = absurd (clash (cc))
-      by_first (bad j) q = sym q
+      by_first (bad j) q = q
 
   pub targets_inside : {e : ℕ} → forget_value (many n word (take end w) at) ≡ got tt e → (j : ℕ) → j < n
       → (at + j < end) × (at + j < length w)
@@ -71,7 +67,7 @@ module _ (k : ℕ) (ws : List ℕ) (at : ℕ) {low high : ℕ} (is_low : low ≡
   bounds : forget_value (counted (fewest_values k) (most_values k) read_value ws at) ≡ forget_value (counted low high read_value ws at)
   bounds = rw (is_low, is_high)
 
-  pub operands_stop : {m : ℕ} → forget_value (counted low high read_value ws at) ≡ bad m → bad m ≡ forget_value (operands_read k ws at)
+  pub operands_stop : {m : ℕ} → forget_value (counted low high read_value ws at) ≡ bad m → forget_value (operands_read k ws at) ≡ bad m
   unfolding operands_read
   operands_stop h = rw (bounds ∙ h)
 
@@ -80,7 +76,7 @@ module _ (k : ℕ) (ws : List ℕ) (at : ℕ) {low high : ℕ} (is_low : low ≡
     places : within (fewest_targets k) (most_targets k) ws p ≡ within fewest most ws p
     places = rw (is_fewest, is_most)
 
-    pub operands_count : {m : ℕ} → within fewest most ws p ≡ bad m → bad m ≡ forget_value (operands_read k ws at)
+    pub operands_count : {m : ℕ} → within fewest most ws p ≡ bad m → forget_value (operands_read k ws at) ≡ bad m
     unfolding operands_read
     operands_count h = rw (bounds ∙ values, places ∙ h)
 
@@ -98,19 +94,19 @@ unfolding operands_read edges_lists counted
 operands_made k op ws at = simp (forget_value_follow, follow_forget_value, follow_follow, forget_value_given)
 
 module _ (ws : List ℕ) (at : ℕ) where
-  pub terminator_stop : {m : ℕ} → within terminator_unreachable terminator_number ws at ≡ bad m → bad m ≡ forget_value (terminator ws at)
+  pub terminator_stop : {m : ℕ} → within terminator_unreachable terminator_number ws at ≡ bad m → forget_value (terminator ws at) ≡ bad m
   unfolding terminator
   terminator_stop h = rw h
 
   pub terminator_opcode : {k p m : ℕ} → within terminator_unreachable terminator_number ws at ≡ got k p
       → forget_value (opcode_for k ws p) ≡ bad m
-      → bad m ≡ forget_value (terminator ws at)
+      → forget_value (terminator ws at) ≡ bad m
   unfolding terminator
   terminator_opcode {k} {p} {m} h j = rw h (by_opcode (opcode_for k ws p) j _)
     where
-      by_opcode : (r : Read ℕ) → forget_value r ≡ bad m → (f : ℕ → ℕ → Read ControlInst) → bad m ≡ forget_value (read_then r f)
+      by_opcode : (r : Read ℕ) → forget_value r ≡ bad m → (f : ℕ → ℕ → Read ControlInst) → forget_value (read_then r f) ≡ bad m
       by_opcode (got a i) q f = absurd (clash (cc))
-      by_opcode (bad n) q f = sym q
+      by_opcode (bad n) q f = q
 
   pub terminator_rest : {k p e : ℕ} → within terminator_unreachable terminator_number ws at ≡ got k p
       → forget_value (opcode_for k ws p) ≡ got tt e

@@ -1,8 +1,5 @@
 -- Values and instructions with their values forgotten, in the order in which the code reads them.
-use Rattle.std.specs.Prelude.{◌≡◌, refl, true, false, List, ℕ, ◌≤◌, ◌<◌, eqb}
-use Rattle.std.proofs.Common.{le-leb, eq-eqb, ne_eqb}
-use Rattle.std.proofs.lemmas.Bool.{lt-leb}
-use Rattle.meaning.specs.Graph.{instr_kind, bool_kind, undef_kind}
+use Rattle.std.specs.Prelude.{◌≡◌, refl, true, false, List, ℕ}
 use Rattle.format.specs.Read.{Read, got, bad, read_then, expect, word, within, counted, is_kind, index_right, value_from_words, read_value}
 use Rattle.format.specs.Read.{instruction}
 use Rattle.format.specs.Places.{forget_value}
@@ -10,32 +7,22 @@ use Rattle.format.specs.Refusals.{out_of_range}
 use Rattle.reading.specs.Readings.{named_by}
 use Rattle.reading.specs.laws.Forgotten.{forget_value_follow, forget_value_given}
 
--- the kinds that a record may have
-pub kind_low : (k : ℕ) → k ≤ instr_kind → true ≡ is_kind k
-kind_low k h = rw (le-leb k instr_kind h)
-
-pub kind_four : (k : ℕ) → instr_kind < k → k ≡ bool_kind → true ≡ is_kind k
-kind_four k h q = rw (lt-leb k instr_kind h, eq-eqb k bool_kind q)
-
-pub kind_five : (k : ℕ) → instr_kind < k → (k ≡ bool_kind → ⊥) → eqb k undef_kind ≡ is_kind k
-kind_five k h q = rw (lt-leb k instr_kind h, ne_eqb k bool_kind q)
-
 module _ (k : ℕ) (ws : List ℕ) (at : ℕ) where
-  pub named_stop : {m : ℕ} → word ws at ≡ bad m → bad m ≡ forget_value (named_by k ws at)
+  pub named_stop : {m : ℕ} → word ws at ≡ bad m → forget_value (named_by k ws at) ≡ bad m
   unfolding named_by
   named_stop h = rw h
 
-  pub named_short : {r p m : ℕ} → word ws at ≡ got r p → word ws p ≡ bad m → bad m ≡ forget_value (named_by k ws at)
+  pub named_short : {r p m : ℕ} → word ws at ≡ got r p → word ws p ≡ bad m → forget_value (named_by k ws at) ≡ bad m
   unfolding named_by
   named_short h j = rw (h, j)
 
   pub named_bad : {r p i e : ℕ} → word ws at ≡ got r p → word ws p ≡ got i e → index_right k i ≡ false
-      → bad out_of_range ≡ forget_value (named_by k ws at)
+      → forget_value (named_by k ws at) ≡ bad out_of_range
   unfolding named_by
   named_bad h j t = rw (h, j, t)
 
   pub named_in : {r p i e : ℕ} → word ws at ≡ got r p → word ws p ≡ got i e → index_right k i ≡ true
-      → got tt e ≡ forget_value (named_by k ws at)
+      → forget_value (named_by k ws at) ≡ got tt e
   unfolding named_by
   named_in h j t = rw (h, j, t)
 
@@ -52,11 +39,11 @@ unfolding named_by
 named_made k f ws at = simp (forget_value_follow, forget_value_given, forget_value_unit)
 
 module _ (ws : List ℕ) (at : ℕ) where
-  pub value_stop : {m : ℕ} → word ws at ≡ bad m → bad m ≡ forget_value (read_value ws at)
+  pub value_stop : {m : ℕ} → word ws at ≡ bad m → forget_value (read_value ws at) ≡ bad m
   unfolding read_value
   value_stop h = rw h
 
-  pub value_kind : {k p : ℕ} → word ws at ≡ got k p → is_kind k ≡ false → bad out_of_range ≡ forget_value (read_value ws at)
+  pub value_kind : {k p : ℕ} → word ws at ≡ got k p → is_kind k ≡ false → forget_value (read_value ws at) ≡ bad out_of_range
   unfolding read_value
   value_kind h t = rw (h, t)
 
@@ -64,16 +51,16 @@ module _ (ws : List ℕ) (at : ℕ) where
   unfolding read_value
   value_rest {k} {p} h t = rw (h, t) (named_made k (value_from_words k) ws p)
 
-  pub instruction_stop : {m : ℕ} → word ws at ≡ bad m → bad m ≡ forget_value (instruction ws at)
+  pub instruction_stop : {m : ℕ} → word ws at ≡ bad m → forget_value (instruction ws at) ≡ bad m
   unfolding instruction
   instruction_stop h = rw h
 
-  pub instruction_type : {a p m : ℕ} → word ws at ≡ got a p → within 0 255 ws p ≡ bad m → bad m ≡ forget_value (instruction ws at)
+  pub instruction_type : {a p m : ℕ} → word ws at ≡ got a p → within 0 255 ws p ≡ bad m → forget_value (instruction ws at) ≡ bad m
   unfolding instruction
   instruction_type h j = rw (h, j)
 
   pub instruction_cost : {a p b q m : ℕ} → word ws at ≡ got a p → within 0 255 ws p ≡ got b q → word ws q ≡ bad m
-      → bad m ≡ forget_value (instruction ws at)
+      → forget_value (instruction ws at) ≡ bad m
   unfolding instruction
   instruction_cost h j i = rw (h, j, i)
 

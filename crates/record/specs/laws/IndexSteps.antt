@@ -1,5 +1,5 @@
 -- The paths through the code that reads the regions and makes the index.
-use Rattle.std.specs.Prelude.{◌≡◌, Bool, List, ◌∷◌, length, set}
+use Rattle.std.specs.Prelude.{◌≡◌, Bool, List, ◌∷◌, length, set, Ok, Err}
 use Rattle.std.proofs.Math.Path.{refl, ap}
 use Rattle.std.proofs.Common.{sym, ◌∙◌, add-one, take-take, length-take-le}
 use Rattle.std.proofs.Math.Bool.{true, false}
@@ -12,30 +12,22 @@ use Rattle.meaning.specs.Graph.{Region}
 use Rattle.meaning.specs.facts.Numbers.{one_less, none_left}
 use Rattle.format.specs.Store.{Answer, accepted, refused, if_accepted}
 use Rattle.format.specs.Read.{Read, got, bad, read_region, word_for, settle, regions_from}
-use Rattle.format.specs.Refusals.{wrong_word_count, out_of_range}
-use Rattle.format.proofs.laws.ReadingStops.{StopsReading, region_stops}
-use Rattle.meaning.specs.Lists.{Within}
+use Rattle.format.specs.Refusals.{wrong_word_count}
 use Rattle.format.specs.Places.{next, forget_value, after, block_of_region, limit_of_region, exits_of_region}
 use Rattle.meaning.specs.facts.Tests.{clash}
 use Rattle.store.specs.Layout.{record_end, row_words, start_word, limit_word, exits_word, blocks_word, index_at, index_end}
-use Rattle.store.specs.Loaded.{answered}
-use Rattle.store.specs.declared.Verdict.{Verdict}
-use Rattle.store.specs.declared.Verdict.TheVariants as verdict
+use Rattle.store.specs.Refusals.{refused_as}
+use Rattle.store.specs.declared.refusals.Refusal.{Refusal}
 use Rattle.store.specs.declared.refusals.Refusal.TheVariants.{WrongWordCount}
 use Rattle.reading.specs.laws.Forgotten.{next_of}
-use Rattle.reading.specs.laws.AnswerSteps.{step_read, step_refused}
+use Rattle.reading.specs.Answers.{fault_number, Reads}
 use Rattle.reading.specs.declared.words.Cursor.{Cursor}
-use Rattle.reading.specs.declared.words.Step.TheVariants.{At, Bad}
-use Rattle.record.specs.Answers.{Placed, RegionPlacesRead}
+use Rattle.reading.specs.declared.words.Fault.{Fault}
+use Rattle.record.specs.Answers.{Placed, RegionPlaced}
 use Rattle.record.specs.laws.Row.{row_none, row_next, row_join, row_front, row_back}
 use Rattle.record.specs.Outcome.{forget, RestKept}
 use Rattle.record.specs.Index.{Row, row_of, IndexedFrom, RegionsOutcome}
 use Rattle.record.specs.declared.regions.RegionPlaces.{RegionPlaces}
-
--- the number of a reading that stops
-pub stopped_within : {A : Type 0} (r : Read A) {m : ℕ} → forget_value r ≡ bad m → StopsReading r → Within wrong_word_count out_of_range m
-stopped_within (got a i) q h = absurd (clash (cc))
-stopped_within (bad k) {m} q h = let same : k ≡ m = cc in rw same at h
 
 -- one region more, refused, and the end
 pub forget_then : {A B : Type 0} (r : Answer A) (f : A → B) → forget (if_accepted r λ a. accepted (f a)) ≡ forget r
@@ -162,28 +154,28 @@ module _ (n count from : ℕ) (old : List ℕ) where
         kept = kept_none old;
       }
 
-  module _ {r : ℕ} {mid : List ℕ} (c : Cursor) (x : RegionPlaces) (g : RegionsGoing n count from old r c.at mid) (ends : c.end ≡ count)
-      (turn : r < n) (small : count ≤ record_end) (read : RegionPlacesRead mid c x) where
+  module _ {r : ℕ} {mid : List ℕ} (c : Cursor) (g : RegionsGoing n count from old r c.at mid) (ends : c.end ≡ count)
+      (turn : r < n) (small : count ≤ record_end) where
     same_words : take count mid ≡ take count old
     same_words = kept_words old mid count small g.kept
 
-    pub regions_next : {e : Cursor} (new : List ℕ) → n ≤ 32 → x.step ≡ At e → Row mid new (index_at r) row_words (row_of c.at x)
-        → RegionsGoing n count from old (r + 1) e.at new
+    pub regions_next : (x : RegionPlaces) (new : List ℕ) → RegionPlaced mid c x → n ≤ 32
+        → Row mid new (index_at r) row_words (row_of c.at x) → RegionsGoing n count from old (r + 1) x.behind.at new
     unfolding after
-    regions_next {e} new few step row =
+    regions_next x new read few row =
         let ws = take count old in
         let at = c.at in
-        let whole : forget_value (read_region ws at) ≡ got tt e.at =
-        rw same_words at (step_read read_region mid c ends read.step step).is in
+        let there = rw ends at read.step.is in
+        let whole : forget_value (read_region ws at) ≡ got tt x.behind.at = rw same_words at there in
         record {
           bound = omega arith;
           rest =
               g.rest ∙ ap (λ k. forget (regions_from k r ws at)) (one_less n r turn) ∙ regions_step (n - (r + 1)) r ws at whole
-              ∙ ap (λ k. forget (regions_from (n - (r + 1)) k ws e.at)) (sym (add-one r));
+              ∙ ap (λ k. forget (regions_from (n - (r + 1)) k ws x.behind.at)) (sym (add-one r));
           place =
               next_of (read_region ws at) whole ∙ ap (λ i. next (read_region ws i)) g.place
               ∙ ap (λ k. after k read_region ws from) (sym (add-one r));
-          index = λ k below. by_region k below (ltb k r) refl row (rw (ends, same_words) at (read.placed e step));
+          index = λ k below. by_region k below (ltb k r) refl row (rw (ends, same_words) at read.placed);
           kept = kept_row old mid new r (row_of at x) (omega arith) g.kept row;
         }
       where
@@ -195,17 +187,15 @@ module _ (n count from : ℕ) (old : List ℕ) where
             let same : k ≡ r = omega (arith, ltb-false k r q) in
             rw same (indexed_here (take count old) from r c.at x mid new g.place placed row)
 
-    pub number_of_region : {m : ℕ} → x.step ≡ Bad m → Within wrong_word_count out_of_range m
-    number_of_region step =
-        let stop = step_refused read_region mid c ends read.step step in
-        stopped_within (read_region (take count mid) c.at) stop (region_stops (take count mid) c.at)
-
-    pub regions_refused : {m : ℕ} (a : Verdict) → x.step ≡ Bad m → answered a ≡ refused m (word_for m r)
-        → RegionsOutcome n count from old mid a
-    regions_refused {m} a step told =
+    pub regions_refused : (fault : Fault) (why : Refusal) → Reads read_region mid c (Err fault)
+        → refused_as {A = Unit {0}} why ≡ refused (fault_number fault) (word_for (fault_number fault) r)
+        → RegionsOutcome n count from old mid (Err why)
+    regions_refused fault why h told =
         let ws = take count old in
         let at = c.at in
-        let stop : forget_value (read_region ws at) ≡ bad m = rw same_words at (step_refused read_region mid c ends read.step step) in
+        let m = fault_number fault in
+        let there = rw ends at h in
+        let stop : forget_value (read_region ws at) ≡ bad m = rw same_words at there in
         let answer : forget (regions_from n 0 ws from) ≡ refused m (word_for m r) = g.rest
         ∙ ap (λ k. forget (regions_from k r ws at)) (one_less n r turn) ∙ regions_stop (n - (r + 1)) r ws at stop in
         record { answer = told ∙ sym answer; index = λ rs q. never (regions_from n 0 ws from) answer q; kept = g.kept }
@@ -214,7 +204,7 @@ module _ (n count from : ℕ) (old : List ℕ) where
     long : length (take count old) ≡ count
     long = length-take-le count old fits
 
-    pub regions_read : at ≡ count → RegionsOutcome n count from old mid verdict.Right
+    pub regions_read : at ≡ count → RegionsOutcome n count from old mid (Ok tt)
     regions_read h =
         record {
           answer =
@@ -224,7 +214,7 @@ module _ (n count from : ℕ) (old : List ℕ) where
           kept = g.kept;
         }
 
-    pub regions_left : (at ≡ count → ⊥) → RegionsOutcome n count from old mid (verdict.Refused WrongWordCount)
+    pub regions_left : (at ≡ count → ⊥) → RegionsOutcome n count from old mid (Err WrongWordCount)
     regions_left h =
         let ws = take count old in
         let answer : refused wrong_word_count 0 ≡ forget (regions_from n 0 ws from) = regions_over r ws at (λ q. h (q ∙ long))

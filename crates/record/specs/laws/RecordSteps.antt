@@ -1,22 +1,21 @@
 -- The record as a whole: what the head and the regions answer together.
-use Rattle.std.specs.Prelude.{◌≡◌, refl, List, ℕ, ◌≤◌, ◌<◌, length, get_or, take}
+use Rattle.std.specs.Prelude.{◌≡◌, refl, List, ℕ, ◌≤◌, ◌<◌, length, get_or, take, Result, Ok, Err, MatchResult}
 use Rattle.std.proofs.Common.{sym, ap, ◌∙◌, arith, get_or-take, le-leb}
+use Rattle.std.specs.Result.{IsErrAnd}
 use Rattle.meaning.specs.Graph.{Graph, Region}
 use Rattle.meaning.specs.Graph as graph
 use Rattle.store.specs.Layout.{record_end, Lent}
 use Rattle.store.specs.Loaded.{answered}
-use Rattle.store.specs.declared.Verdict.{Verdict}
-use Rattle.store.specs.declared.Verdict.TheVariants as verdict
+use Rattle.store.specs.Refusals.{refused_as}
+use Rattle.store.specs.declared.refusals.Refusal.{Refusal}
 use Rattle.store.specs.declared.refusals.Refusal.TheVariants.{WrongWordCount}
 use Rattle.std.proofs.lemmas.Bool.{lt-leb}
 use Rattle.format.specs.Store.{accepted, refused}
 use Rattle.format.specs.Read.{Read, got, bad, block, read_region, word_for, regions_from, Head, head, read_record}
 use Rattle.format.specs.Places.{next, after, start_of_region, blocks_of_region, block_of_region, limit_of_region, exits_of_region}
 use Rattle.meaning.specs.facts.Tests.{clash}
-use Rattle.format.specs.Refusals.{wrong_word_count, out_of_range}
-use Rattle.format.proofs.laws.ReadingStops.{head_stops}
+use Rattle.format.specs.Refusals.{wrong_word_count}
 use Rattle.format.specs.laws.Readers.{many_length}
-use Rattle.meaning.specs.Lists.{Within}
 use Rattle.record.specs.Stands.{words_of_record, Indexed, Stands}
 use Rattle.record.specs.laws.Parts.{RecordParts, record_parts, region_parts, counted_parts, settled_at, then, regions_many}
 use Rattle.record.specs.laws.Parts.{accepted_value}
@@ -25,6 +24,24 @@ use Rattle.record.specs.Readings.{count_of, head_count}
 use Rattle.record.specs.Outcome.{forget, RestKept, record_in, ReadOutcome}
 use Rattle.record.specs.Index.{IndexedFrom, RegionsOutcome}
 use Rattle.record.specs.laws.IndexSteps.{never, forget_then, kept_none, kept_words}
+
+-- What was called, from what its `map_err` answered.
+pub mapped_ok : {X E F : Type 0} (r : Result X E) (s : Result X F) (Q : E → F → Type 0) {x : X}
+    → MatchResult r (λ y. s ≡ Ok y) (λ e. IsErrAnd s (Q e)) → s ≡ Ok x → r ≡ Ok x
+mapped_ok (Ok y) s Q h is = cc
+mapped_ok (Err e) (Ok y) Q h is = absurd h
+mapped_ok (Err e) (Err f) Q h is = absurd (clash (cc))
+
+pub record MappedErr {X E F : Type 0} (r : Result X E) (Q : E → F → Type 0) (f : F) : Type 0 where
+  pub why : E
+  pub is : r ≡ Err why
+  pub told : Q why f
+
+pub mapped_err : {X E F : Type 0} (r : Result X E) (s : Result X F) (Q : E → F → Type 0) (f : F)
+    → MatchResult r (λ y. s ≡ Ok y) (λ e. IsErrAnd s (Q e)) → s ≡ Err f → MappedErr r Q f
+mapped_err (Ok y) s Q f h is = absurd (clash (cc))
+mapped_err (Err e) (Ok y) Q f h is = absurd h
+mapped_err (Err e) (Err g) Q f h is = record { why = e; is = refl; told = let same : g ≡ f = cc in rw (← same) h }
 
 -- A head of which the count and the place are known.
 record HeadFound (ws : List ℕ) (n at : ℕ) : Type 0 where
@@ -47,32 +64,28 @@ bad_head : (r : Read Head) {m : ℕ} → count_of r ≡ bad m → r ≡ bad m
 bad_head (got h i) q = absurd (clash (cc))
 bad_head (bad n) q = cc
 
-pub number_of_head : (ws : List ℕ) {m : ℕ} → head_count ws 1 ≡ bad m → Within wrong_word_count out_of_range m
-unfolding head_count
-number_of_head ws h = rw (bad_head (head ws 1) h) at (head_stops ws 1)
-
 -- Of a record with W words, which is not too long.
-pub record WordsOutcome (count : ℕ) (old new : List ℕ) (a : Verdict) : Type 0 where
+pub record WordsOutcome (count : ℕ) (old new : List ℕ) (a : Result Unit Refusal) : Type 0 where
   pub answer : answered a ≡ forget (read_record (take count old))
   pub stands : (g : Graph) → read_record (take count old) ≡ accepted g → Stands new g
   pub kept : RestKept old new
 
-pub in_words : (count : ℕ) (old new : List ℕ) (a : Verdict) → count ≡ get_or old 0 0 → count ≤ record_end → WordsOutcome count old new a
+pub in_words : (count : ℕ) (old new : List ℕ) (a : Result Unit Refusal) → count ≡ get_or old 0 0 → count ≤ record_end → WordsOutcome count old new a
     → ReadOutcome old new a
 in_words count old new a is few o =
     let same : record_in old ≡ read_record (take count old) = rw (← is, le-leb count record_end few) in
     record { answer = o.answer ∙ sym (ap forget same); stands = λ g q. o.stands g (sym same ∙ q); kept = o.kept }
 
-pub too_long : (count : ℕ) (old : List ℕ) → count ≡ get_or old 0 0 → record_end < count → ReadOutcome old old (verdict.Refused WrongWordCount)
+pub too_long : (count : ℕ) (old : List ℕ) → count ≡ get_or old 0 0 → record_end < count → ReadOutcome old old (Err WrongWordCount)
 too_long count old is over =
     let none : record_in old ≡ refused wrong_word_count 0 = rw (← is, lt-leb count record_end over) in
     record { answer = sym (ap forget none); stands = λ g q. absurd (clash (cc)); kept = kept_none old }
 
 -- the head is refused
-pub record_stop : (count : ℕ) (old : List ℕ) (a : Verdict) {m : ℕ} → head_count (take count old) 1 ≡ bad m
-    → answered a ≡ refused m (word_for m 0) → WordsOutcome count old old a
+pub record_stop : (count : ℕ) (old : List ℕ) (why : Refusal) {m : ℕ} → head_count (take count old) 1 ≡ bad m
+    → refused_as {A = Unit {0}} why ≡ refused m (word_for m 0) → WordsOutcome count old old (Err why)
 unfolding read_record head_count
-record_stop count old a {m} h told =
+record_stop count old why {m} h told =
     let stop = bad_head (head (take count old) 1) h in
     let answer : forget (read_record (take count old)) ≡ refused m (word_for m 0) = rw stop in
     record { answer = told ∙ sym answer; stands = λ g q. never (read_record (take count old)) answer q; kept = kept_none old }
@@ -129,7 +142,7 @@ indexed_as ws w g at r words place parts below x =
           ∙ ap (λ s. block_of_region s (start_of_region (words_of_record w) r) b) (sym words);
     }
 
-pub record_whole : (n count at : ℕ) (old new : List ℕ) (a : Verdict) → count ≤ record_end → get_or old 0 0 ≡ count → Lent old
+pub record_whole : (n count at : ℕ) (old new : List ℕ) (a : Result Unit Refusal) → count ≤ record_end → get_or old 0 0 ≡ count → Lent old
     → head_count (take count old) 1 ≡ got n at → RegionsOutcome n count at old new a → WordsOutcome count old new a
 record_whole n count at old new a small first long h out =
     let ws = take count old in

@@ -1,6 +1,5 @@
 -- Regions and the head with their values forgotten, in the order in which the code reads them.
 use Rattle.std.specs.Prelude.{◌≡◌, refl, List, ℕ, ◌<◌, length}
-use Rattle.std.proofs.Common.{sym}
 use Rattle.meaning.specs.Graph.{Instr, Region}
 use Rattle.format.specs.Read.{Read, got, bad, Reader, read_then, word, within, counted, type, instruction, block, terminator, read_region}
 use Rattle.format.specs.Read.{Head, head}
@@ -12,22 +11,22 @@ use Rattle.reading.specs.laws.Forgotten.{forget_value_follow, forget_value_given
 use Rattle.reading.specs.laws.TerminatorsForgotten.{found}
 
 -- what a refusal leaves of a sequence
-pub stopped : {A B : Type 0} (r : Read A) (k : A → ℕ → Read B) {m : ℕ} → forget_value r ≡ bad m → bad m ≡ forget_value (read_then r k)
+pub stopped : {A B : Type 0} (r : Read A) (k : A → ℕ → Read B) {m : ℕ} → forget_value r ≡ bad m → forget_value (read_then r k) ≡ bad m
 stopped (got a i) k h = absurd (clash (cc))
-stopped (bad n) k h = sym h
+stopped (bad n) k h = h
 
 module _ (ws : List ℕ) (at : ℕ) where
-  pub ending_limit : {m : ℕ} → within 1 65535 ws at ≡ bad m → bad m ≡ forget_value (ending_read ws at)
+  pub ending_limit : {m : ℕ} → within 1 65535 ws at ≡ bad m → forget_value (ending_read ws at) ≡ bad m
   unfolding ending_read
   ending_limit h = rw h
 
   pub ending_terminator : {l p m : ℕ} → within 1 65535 ws at ≡ got l p → forget_value (terminator ws p) ≡ bad m
-      → bad m ≡ forget_value (ending_read ws at)
+      → forget_value (ending_read ws at) ≡ bad m
   unfolding ending_read
   ending_terminator h j = rw (h, j)
 
   pub ending_exits : {l p q : ℕ} {r : Read Unit} → within 1 65535 ws at ≡ got l p → forget_value (terminator ws p) ≡ got tt q
-      → forget_value (counted 0 32 word ws q) ≡ r → r ≡ forget_value (ending_read ws at)
+      → forget_value (counted 0 32 word ws q) ≡ r → forget_value (ending_read ws at) ≡ r
   unfolding ending_read
   ending_exits h j k = rw (h, j, k)
 
@@ -40,12 +39,12 @@ unfolding ending_read
 ending_made inputs blocks ws at = simp (forget_value_follow, follow_forget_value, forget_value_given)
 
 module _ (ws : List ℕ) (at : ℕ) where
-  pub region_inputs : {m : ℕ} → forget_value (counted 0 4 type ws at) ≡ bad m → bad m ≡ forget_value (read_region ws at)
+  pub region_inputs : {m : ℕ} → forget_value (counted 0 4 type ws at) ≡ bad m → forget_value (read_region ws at) ≡ bad m
   unfolding read_region
   region_inputs h = stopped (counted 0 4 type ws at) _ h
 
   pub region_blocks : {p m : ℕ} → forget_value (counted 0 4 type ws at) ≡ got tt p → forget_value (counted 0 8 block ws p) ≡ bad m
-      → bad m ≡ forget_value (read_region ws at)
+      → forget_value (read_region ws at) ≡ bad m
   unfolding read_region
   region_blocks {p} h j = let f = found (counted 0 4 type ws at) h in rw f.is (stopped (counted 0 8 block ws p) _ j)
 
@@ -58,11 +57,11 @@ module _ (ws : List ℕ) (at : ℕ) where
       rw (f.is, g.is) (ending_made f.value g.value ws q)
 
 module _ (ws : List ℕ) (at : ℕ) where
-  pub after_count_entry : {m : ℕ} → word ws at ≡ bad m → bad m ≡ forget_value (after_count ws at)
+  pub after_count_entry : {m : ℕ} → word ws at ≡ bad m → forget_value (after_count ws at) ≡ bad m
   unfolding after_count
   after_count_entry h = rw h
 
-  pub after_count_test : {a p m : ℕ} → word ws at ≡ got a p → word ws p ≡ bad m → bad m ≡ forget_value (after_count ws at)
+  pub after_count_test : {a p m : ℕ} → word ws at ≡ got a p → word ws p ≡ bad m → forget_value (after_count ws at) ≡ bad m
   unfolding after_count
   after_count_test h j = rw (h, j)
 
@@ -82,13 +81,13 @@ unfolding head head_count after_count
 head_counted ws at = simp (count_follow, follow_follow, follow_forget_value)
 
 module _ (ws : List ℕ) (at : ℕ) where
-  pub head_count_is : {m : ℕ} → within 1 32 ws at ≡ bad m → bad m ≡ head_count ws at
+  pub head_count_is : {m : ℕ} → within 1 32 ws at ≡ bad m → head_count ws at ≡ bad m
   head_count_is h = rw (head_counted, h)
 
-  pub head_stop : {n p m : ℕ} → within 1 32 ws at ≡ got n p → forget_value (after_count ws p) ≡ bad m → bad m ≡ head_count ws at
+  pub head_stop : {n p m : ℕ} → within 1 32 ws at ≡ got n p → forget_value (after_count ws p) ≡ bad m → head_count ws at ≡ bad m
   head_stop h j = rw (head_counted, h, j)
 
-  pub head_rest : {n p e : ℕ} → within 1 32 ws at ≡ got n p → forget_value (after_count ws p) ≡ got tt e → got n e ≡ head_count ws at
+  pub head_rest : {n p e : ℕ} → within 1 32 ws at ≡ got n p → forget_value (after_count ws p) ≡ got tt e → head_count ws at ≡ got n e
   head_rest h j = rw (head_counted, h, j)
 
 -- what is read begins in front of the end

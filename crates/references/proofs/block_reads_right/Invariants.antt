@@ -1,5 +1,5 @@
 -- Each round has one instruction.
-use Prim.Native.Nat.{◌+◌, ◌-◌}
+use Prim.Native.Nat.{◌+◌}
 use Rattle.format.specs.References as format
 use Rattle.fields.specs.ByNumber.{block_of, instr_of}
 use Rattle.references.specs.laws.Rounds.{Round}
@@ -9,6 +9,3 @@ abbrev pub invariant-loop-i : goal.invariant-loop-i
 invariant-loop-i l =
     Round l.w (λ g k. format.first_refusal (format.named_right g l.r (l.before + k)) (instr_of g l.r l.b k).reads)
     (λ g. format.reads_right g l.r l.before (block_of g l.r l.b)) l.n l.i
-
-abbrev pub decreases-loop-i : goal.decreases-loop-i
-decreases-loop-i l = l.n - l.i

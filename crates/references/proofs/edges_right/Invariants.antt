@@ -1,5 +1,4 @@
 -- Each round has one target, with its values where it stands for the first time.
-use Prim.Native.Nat.{◌-◌}
 use mathlib.Core.List.{[]}
 use Rattle.meaning.specs.Graph.{region, edges_of}
 use Rattle.format.specs.References as format
@@ -11,6 +10,3 @@ abbrev pub invariant-loop-j : goal.invariant-loop-j
 invariant-loop-j l =
     Round l.w (λ g. first_right g l.r (edges_of (region g l.r).terminator))
     (λ g. format.first_refusal (format.edge_right g l.r) (format.first_edges [] (edges_of (region g l.r).terminator))) l.n l.j
-
-abbrev pub decreases-loop-j : goal.decreases-loop-j
-decreases-loop-j l = l.n - l.j

@@ -1,5 +1,4 @@
 -- Each round has one value.
-use Prim.Native.Nat.{◌-◌}
 use lib.ListN.{get_or}
 use Rattle.meaning.specs.Graph.{no_value}
 use Rattle.format.specs.References as format
@@ -11,6 +10,3 @@ abbrev pub invariant-loop-k : goal.invariant-loop-k
 invariant-loop-k l =
     Round l.w (λ g k. format.named_right g l.r (format.behind_all g l.r) (get_or (end_values g l.r) k no_value))
     (λ g. format.first_refusal (format.named_right g l.r (format.behind_all g l.r)) (end_values g l.r)) l.n l.k
-
-abbrev pub decreases-loop-k : goal.decreases-loop-k
-decreases-loop-k l = l.n - l.k

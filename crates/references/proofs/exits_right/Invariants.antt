@@ -1,5 +1,4 @@
 -- Each round has one exit: no region, named twice, or right.
-use Prim.Native.Nat.{◌-◌}
 use mathlib.Core.List.{[]}
 use Rattle.meaning.specs.Graph.{region}
 use Rattle.format.specs.References as format
@@ -10,6 +9,3 @@ use Rattle.references.proofs.exits_right.Given as goal
 abbrev pub invariant-loop-k : goal.invariant-loop-k
 invariant-loop-k l =
     Round l.w (λ g. exit_right g l.r (region g l.r).exits) (λ g. format.exits_right g l.r [] (region g l.r).exits) l.n l.k
-
-abbrev pub decreases-loop-k : goal.decreases-loop-k
-decreases-loop-k l = l.n - l.k

@@ -1,5 +1,4 @@
 -- Each round has one read.
-use Prim.Native.Nat.{◌-◌}
 use lib.ListN.{get_or}
 use Rattle.meaning.specs.Graph.{no_value}
 use Rattle.format.specs.References as format
@@ -11,6 +10,3 @@ abbrev pub invariant-loop-k : goal.invariant-loop-k
 invariant-loop-k l =
     Round l.w (λ g k. format.named_right g l.r l.before (get_or (instr_of g l.r l.b l.i).reads k no_value))
     (λ g. format.first_refusal (format.named_right g l.r l.before) (instr_of g l.r l.b l.i).reads) l.n l.k
-
-abbrev pub decreases-loop-k : goal.decreases-loop-k
-decreases-loop-k l = l.n - l.k

@@ -4,5 +4,5 @@ use Rattle.references.proofs.named_right.Goals as goal
 pub returns-then-type_in-eq0 : goal.returns-then-type_in-eq0
 returns-then-type_in-eq0 c g s = not_named g _ _ _ (c.type_in.ensures g s) c.if-type_in-eq0.true
 
-pub returns : goal.returns
-returns c g s = is_named g _ _ _ (c.type_in.ensures g s) c.if-type_in-eq0.false
+pub returns-else-type_in-eq0 : goal.returns-else-type_in-eq0
+returns-else-type_in-eq0 c g s = is_named g _ _ _ (c.type_in.ensures g s) c.if-type_in-eq0.false

@@ -1,5 +1,4 @@
 -- As many values as inputs, and then each round has one of both.
-use Prim.Native.Nat.{◌-◌}
 use lib.ListN.{get_or}
 use Rattle.meaning.specs.Graph.{no_value, region}
 use Rattle.format.specs.References as format
@@ -12,6 +11,3 @@ abbrev pub invariant-loop-k : goal.invariant-loop-k
 invariant-loop-k l =
     Round l.w (λ g k. typed g l.r (get_or (region g l.t).inputs k 0) (get_or (edge_of g l.r l.j).inputs k no_value))
     (λ g. format.edge_right g l.r (edge_of g l.r l.j)) l.n l.k
-
-abbrev pub decreases-loop-k : goal.decreases-loop-k
-decreases-loop-k l = l.n - l.k

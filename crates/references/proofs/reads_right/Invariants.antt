@@ -1,5 +1,5 @@
 use mathlib.Core.Path.{◌≡◌}
-use Prim.Native.Nat.{◌≤◌, ◌-◌, ◌*◌}
+use Prim.Native.Nat.{◌≤◌, ◌*◌}
 use lib.ListN.{drop}
 use Rattle.meaning.specs.Graph.{region}
 use Rattle.format.specs.References as format
@@ -11,6 +11,3 @@ invariant-loop-b l =
     (l.b ≤ l.n) × (l.before ≤ 65535 * l.b) × OfRecord l.w (λ g. format.reads_right g l.r l.before (format.instructions (drop l.b (region g l.r).blocks))
     ≡ format.reads_right g l.r 0
     (format.instructions (region g l.r).blocks))
-
-abbrev pub decreases-loop-b : goal.decreases-loop-b
-decreases-loop-b l = l.n - l.b

@@ -1,5 +1,6 @@
 use native.Mathlib.Omega.{arith}
 use mathlib.Core.Path.{◌∙◌}
+use Rattle.std.proofs.lemmas.Result.{err_from_is_err_and}
 use lib.ListN.{drop}
 use Rattle.format.specs.References as format
 use Rattle.fields.specs.ByNumber.{end_values}
@@ -28,18 +29,20 @@ loop-k-init c =
           sizes_agree g _ (format.return_types g) _ (c.value_count-n.ensures g s) types c.if-n-value_count.false;
     }
 
-pub returns-in-Refused : goal.returns-in-Refused
-returns-in-Refused c =
+pub returns-in_err-named_of_type : goal.returns-in_err-named_of_type
+returns-in_err-named_of_type c =
     let first = c.first_return-q in
-    call_refused c.loop-k.invariant c.loop-k-test.true
-    (λ g s. c.named_of_type-c.ensures g s
+    let p = err_from_is_err_and c.from_residual.result c.from_residual.ensures.1 in
+    rw (p.1, p.2)
+    (call_refused c.loop-k.invariant c.loop-k-test.true
+    (λ g s. c.named_of_type.ensures g s
     ∙ rw (c.return_type.ensures g s ∙ return_type g _ (first.ensures g s), c.value.ensures g s))
-    c.in-Refused.is
+    c.in_err-named_of_type.was)
 
 pub loop-k-preserved : goal.loop-k-preserved
 loop-k-preserved c =
     let first = c.first_return-q in
     call_passed c.loop-k.invariant c.loop-k-test.true
-    (λ g s. c.named_of_type-c.ensures g s
+    (λ g s. c.named_of_type.ensures g s
     ∙ rw (c.return_type.ensures g s ∙ return_type g _ (first.ensures g s), c.value.ensures g s))
-    c.in_default.is
+    c.in_ok-named_of_type.was

@@ -1,5 +1,4 @@
 -- As many values as the first Return region has, and then each round has one of both.
-use Prim.Native.Nat.{◌-◌}
 use lib.ListN.{get_or}
 use Rattle.meaning.specs.Graph.{no_value}
 use Rattle.format.specs.References as format
@@ -12,6 +11,3 @@ abbrev pub invariant-loop-k : goal.invariant-loop-k
 invariant-loop-k l =
     Round l.w (λ g k. typed g l.r (get_or (format.return_types g) k 0) (get_or (end_values g l.r) k no_value))
     (λ g. format.passed_right g l.r (format.return_types g) (end_values g l.r)) l.n l.k
-
-abbrev pub decreases-loop-k : goal.decreases-loop-k
-decreases-loop-k l = l.n - l.k

@@ -1,5 +1,4 @@
 -- Each round has one target: a region, or none.
-use Prim.Native.Nat.{◌-◌}
 use Rattle.meaning.specs.Graph.{region, edges_of}
 use Rattle.format.specs.References as format
 use Rattle.fields.specs.ByNumber.{edge_of}
@@ -10,6 +9,3 @@ abbrev pub invariant-loop-j : goal.invariant-loop-j
 invariant-loop-j l =
     Round l.w (λ g k. format.target_right g l.r (edge_of g l.r k))
     (λ g. format.first_refusal (format.target_right g l.r) (edges_of (region g l.r).terminator)) l.n l.j
-
-abbrev pub decreases-loop-j : goal.decreases-loop-j
-decreases-loop-j l = l.n - l.j

@@ -1,6 +1,5 @@
 use mathlib.Core.Path.{◌≡◌, sym, ◌∙◌}
 use native.Mathlib.Omega.{arith}
-use lib.ListN.{length, take}
 use lib.Seq.{length-take-le}
 use Rattle.vectors.proofs.Laws.{behind_within, parted}
 use Rattle.replay.specs.Agrees.{kept_whole}
@@ -11,7 +10,7 @@ slice_bounds-rest-count c = rw c.behind-at.ensures (behind_within _ _)
 
 pub slice_bounds-rest-start : goal.slice_bounds-rest-start
 slice_bounds-rest-start c =
-    omega (arith, c.behind-at.ensures, behind_within 32 (take c.args.size c.args.text.now))
+    omega (arith, c.behind-at.ensures, behind_within 32 c.args.vector.now)
 
 pub slice_bounds-decode-end : goal.slice_bounds-decode-end
 slice_bounds-decode-end c =
@@ -27,8 +26,7 @@ slice_bounds-is_nested-start c =
 
 pub returns-then-of_sheet : goal.returns-then-of_sheet
 returns-then-of_sheet c =
-    let v = take c.args.size c.args.text.now in
-    let size : length v ≡ c.args.size = length-take-le _ _ c.requires in
+    let v = c.args.vector.now in
     let p = parted v c.behind-at.ensures c.behind-end.ensures in
     let kind = sym c.of_sheet.ensures ∙ c.if-of_sheet.true in
     kept_whole v (omega arith) (c.decode-n.ensures.bytes ∙ p.store) p.answer kind c.is_nested.ensures
@@ -41,10 +39,9 @@ pub slice_bounds-is_shown-start : goal.slice_bounds-is_shown-start
 slice_bounds-is_shown-start c =
     omega (arith, (parted _ c.behind-at.ensures c.behind-end.ensures).within)
 
-pub returns : goal.returns
-returns c =
-    let v = take c.args.size c.args.text.now in
-    let size : length v ≡ c.args.size = length-take-le _ _ c.requires in
+pub returns-else-of_sheet : goal.returns-else-of_sheet
+returns-else-of_sheet c =
+    let v = c.args.vector.now in
     let p = parted v c.behind-at.ensures c.behind-end.ensures in
     let kind = sym c.of_sheet.ensures ∙ c.if-of_sheet.false in
     kept_whole v (omega arith) (c.decode-n.ensures.bytes ∙ p.store) p.answer kind c.is_shown.ensures

@@ -7,6 +7,6 @@ pub returns-then-ends : goal.returns-then-ends
 returns-then-ends c =
     ended agrees (sym c.ends.ensures ∙ c.if-ends.true) c.agrees.ensures c.counted.ensures _
 
-pub returns : goal.returns
-returns c =
+pub returns-else-ends : goal.returns-else-ends
+returns-else-ends c =
     kept agrees (sym c.ends.ensures ∙ c.if-ends.false) c.requires c.keep.ensures

@@ -4,5 +4,5 @@ use Rattle.replay.proofs.is_shown.Goals as goal
 
 pub returns : goal.returns
 returns c =
-    let front = shown_front c.show-written.ensures c.in-Bytes.is in
+    let front = shown_front c.show.ensures c.in-Ok.is in
     as_shown front c.same.ensures

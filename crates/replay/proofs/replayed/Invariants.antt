@@ -5,14 +5,11 @@ use Rattle.replay.specs.Agrees.{agrees}
 use Rattle.replay.proofs.replayed.Given as goal
 
 -- The list as far as it was read.
-abbrev pub invariant-loop-left : goal.invariant-loop-left
-invariant-loop-left g l = record {
+abbrev pub invariant-loop-turn : goal.invariant-loop-turn
+invariant-loop-turn g l = record {
   chunk : 65536 ≡ length l.chunk;
   size : l.reader.size ≤ 65536;
   so_far : (listed : List ℕ)
       × Consumes (g.R.Read.remaining l.initial.list) (g.R.Read.remaining l.list) listed
       × (reading_of l.reader l.text ≡ read_bytes agrees (reading_of at_start []) listed);
 }
-
-abbrev pub decreases-loop-left : goal.decreases-loop-left
-decreases-loop-left g l = l.left

@@ -1,11 +1,10 @@
 -- Line 1 and the lines behind it are the whole sheet; measured where no word is lent, then written if that many are, they leave the words
 -- behind the sheet as they were.
-use Rattle.std.specs.Prelude.{◌≡◌, refl, Bool, ◌||◌, true, false, ℕ, ◌-◌, ◌≤◌, ◌<◌, suc, drop, get_or, take}
-use Rattle.std.proofs.Common.{sym, ◌∙◌, arith, length-take, take-append-drop, lt-ltb, le-ltb, take-suc}
+use Rattle.std.specs.Prelude.{◌≡◌, refl, Bool, ◌||◌, true, false, ℕ, ◌-◌, ◌≤◌, ◌<◌, suc, drop, get_or, take, Ok, Err}
+use Rattle.std.proofs.Common.{sym, ◌∙◌, arith, length-take, take-append-drop, take-suc}
 use Rattle.std.proofs.Math.Path.{ap}
 use mathlib.Core.List.{List, [], ◌∷◌, ◌++◌, append_assoc}
 use Rattle.std.proofs.Math.ListN.{length}
-use Rattle.std.proofs.Math.Decide.{dec_lt}
 use Rattle.meaning.specs.Lists.{pick, bit}
 use Rattle.meaning.specs.Graph.{Graph}
 use Rattle.nesting.specs.Nesting.{NestState, Nested, Outcome, untouched, whole, closed, leftover}
@@ -14,7 +13,6 @@ use Rattle.state_words.specs.Sections.{word, head}
 use Rattle.sheet_words.specs.declared.place.Place.{Place}
 use Rattle.sheet_words.specs.PutInFront.{written}
 use Rattle.sheet_words.specs.Parts.{most}
-use Rattle.sheet.specs.declared.whole.Sheet.TheVariants.{Words, TooFew}
 use Rattle.sheet_nodes.specs.Whole.{nested_words, head_words}
 use Rattle.std.proofs.lemmas.List.{set_at}
 use Rattle.sheet_words.specs.laws.PutInFrontLaws.{puts_then}
@@ -31,10 +29,7 @@ outcome_number closed = 2
 outcome_number leftover = 3
 
 pub lent_few : (out : List ℕ) → (lent out ≤ length out) × (lent out ≤ 4294967295)
-lent_few out = elim (dec_lt (length out) 4294967295) [
-  | yes h ↦ rw (lt-ltb (length out) 4294967295 h) (omega arith, omega arith)
-  | no h ↦ rw (le-ltb (length out) 4294967295 (omega arith)) (omega arith, omega arith)
-]
+lent_few out = (omega arith, omega arith)
 
 -- ---- Words that end within the lent words.
 pub written_within : (out : List ℕ) (end : ℕ) (ws : List ℕ) → length ws ≤ end → end ≤ length out
@@ -106,14 +101,14 @@ pub measured : (w : List ℕ) (outcome figure : ℕ) {out out' : List ℕ} {a n 
 measured w outcome figure p e g s c x shown f = let b = (p g s c x shown f).begins in e ∙ rw b
 
 module _ (w : List ℕ) (outcome figure : ℕ) {out : List ℕ} {n : ℕ} (size : Measures w outcome figure n) where
-  pub not_written : lent out < n → WritesSheet w outcome figure out out TooFew
+  pub not_written : lent out < n → WritesSheet w outcome figure out out (Err (record {}))
   not_written h g s c x shown f =
       let m = size g s c x shown f in
       let long = as_long g x in
       too_few (omega arith) refl
 
   pub all_written : {out' : List ℕ} {a : ℕ} → n ≤ lent out → PutsSheet w outcome figure out n out' a
-      → WritesSheet w outcome figure out out' (Words n)
+      → WritesSheet w outcome figure out out' (Ok n)
   all_written h p g s c x shown f =
       let m = size g s c x shown f in
       let long = as_long g x in

@@ -1,14 +1,17 @@
+use Rattle.state_nodes.specs.laws.CellTagsBack.{tag_is, tag_not}
+use borrow.Author.Rules.{rules}
+use mathlib.Core.Path.{refl}
 use Rattle.sheet_regions.proofs.laws.ListsLaws.{cell_blocks, cell_one}
 use Rattle.sheet_regions.proofs.put_cell_numbers.Goals as goal
 
-pub returns-then-cell_tag-eq-BLOCKS : goal.returns-then-cell_tag-eq-BLOCKS
-returns-then-cell_tag-eq-BLOCKS c =
-    cell_blocks _ _ c.cell_tag.ensures
-    c.if-cell_tag-eq-BLOCKS.true c.blocks_region.ensures
+pub returns-then-eq : goal.returns-then-eq
+returns-then-eq c =
+    cell_blocks _ _ refl
+    (tag_is c.cell_tag.ensures (search rules)) c.blocks_region.ensures
     c.put_block_numbers.ensures
 
-pub returns : goal.returns
-returns c =
-    cell_one _ _ c.cell_tag.ensures
-    c.if-cell_tag-eq-BLOCKS.false c.cell_node.ensures
-    c.put_number.ensures
+pub returns-else-eq : goal.returns-else-eq
+returns-else-eq c =
+    cell_one _ _ refl
+    (tag_not c.cell_tag.ensures (search rules)) c.cell_node.ensures
+    (rw c.from.ensures at c.put_number.ensures)

@@ -17,9 +17,9 @@ put_regions-y-requires t c = (
   tt,
 )
 
-pub returns : goal.returns
-returns t c =
+pub returns-else-list-eq0 : goal.returns-else-list-eq0
+returns-else-list-eq0 t c =
     first_region _ c.if-list-eq0.false
     c.cases_after.ensures
     c.put_regions-y.ensures c.case_region.ensures
-    c.put_number.ensures
+    (rw c.from.ensures at c.put_number.ensures)

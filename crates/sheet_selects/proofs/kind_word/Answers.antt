@@ -6,6 +6,6 @@ pub returns-then-shape-eq-BOOL_COND : goal.returns-then-shape-eq-BOOL_COND
 unfolding kind_word
 returns-then-shape-eq-BOOL_COND c = rw (eq-eqb c.args.shape 0 c.if-shape-eq-BOOL_COND.true)
 
-pub returns : goal.returns
+pub returns-else-shape-eq-BOOL_COND : goal.returns-else-shape-eq-BOOL_COND
 unfolding kind_word
-returns c = rw (ne_eqb c.args.shape 0 c.if-shape-eq-BOOL_COND.false)
+returns-else-shape-eq-BOOL_COND c = rw (ne_eqb c.args.shape 0 c.if-shape-eq-BOOL_COND.false)

@@ -1,6 +1,5 @@
 use mathlib.Core.Path.{◌≡◌}
 use Prim.Native.Nat.{◌+◌, ◌-◌, ◌≤◌}
-use lib.ListN.{length}
 use Rattle.sheet_words.specs.PutInFront.{Puts}
 use Rattle.sheet_words.specs.laws.Rows.{run}
 use Rattle.sheet_words.specs.Parts.{OfState}
@@ -11,7 +10,4 @@ use Rattle.sheet_selects.proofs.put_case_outputs.Given as goal
 abbrev pub invariant-loop-o : goal.invariant-loop-o
 invariant-loop-o l =
     OfState l.w (λ g s. Puts l.initial.out l.initial.e (run (own l.w l.node (case_value l.w l.j s)) l.o (l.initial.o - l.o)) l.out l.e)
-    × (node_times l.w l.node l.initial.o ≡ node_times l.w l.node l.o + l.n) × (l.n + l.o ≤ l.initial.o) × (length l.out ≡ length l.initial.out)
-
-abbrev pub decreases-loop-o : goal.decreases-loop-o
-decreases-loop-o l = l.o
+    × (node_times l.w l.node l.initial.o ≡ node_times l.w l.node l.o + l.n) × (l.n + l.o ≤ l.initial.o)

@@ -1,6 +1,5 @@
 use mathlib.Core.Path.{refl}
 use native.Mathlib.Omega.{arith}
-use borrow.Author.Rules.{rules}
 use Rattle.sheet_words.specs.laws.Rows.{run_start}
 use Rattle.sheet_selects.specs.OwnOutputs.{own, type_word}
 use Rattle.sheet_selects.specs.laws.OwnOutputsLaws.{own_put, other_passed, own_counted, other_not_counted, output_types_put}
@@ -13,7 +12,6 @@ loop-o-init c = (
       c.args.at,
   omega arith,
   omega arith,
-  refl,
 )
 
 pub loop-o-preserved-then-output_node-node : goal.loop-o-preserved-then-output_node-node
@@ -28,7 +26,6 @@ loop-o-preserved-then-output_node-node c = (
       c.loop-o.invariant.1
       c.if-output_node-node.true refl,
   omega arith,
-  search rules,
 )
 
 pub loop-o-preserved : goal.loop-o-preserved
@@ -38,7 +35,6 @@ loop-o-preserved c = (
   other_not_counted _ _ _ _ _ c.output_node.ensures c.loop-o-test.true
       c.loop-o.invariant.1 c.if-output_node-node.false refl,
   omega arith,
-  c.loop-o.invariant.3,
 )
 
 pub returns : goal.returns

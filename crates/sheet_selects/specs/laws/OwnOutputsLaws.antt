@@ -9,7 +9,8 @@ use native.Mathlib.Omega.{arith}
 use Rattle.std.proofs.Math.ListN.{length}
 use Rattle.std.proofs.lemmas.List.{length-map}
 use Rattle.std.proofs.Math.Dec.{eqb}
-use borrow.Author.Tests.{le-ltb, eq-eqb, ne_eqb, eqb-true}
+use Rattle.std.proofs.Math.Nat.{min-eq_left}
+use borrow.Author.Tests.{eq-eqb, ne_eqb, eqb-true}
 use Rattle.meaning.specs.Lists.{filter, pick, times_in}
 use Rattle.meaning.specs.Graph.{Value, undef}
 use Rattle.nesting.specs.Nesting.{NestState, NodeOutput, plain, case_outputs, output_decls}
@@ -108,8 +109,7 @@ module _ {w : List ℕ} {s : NestState} (t : ShowsTables w s) (node : ℕ) where
       let size : length (output_nodes s) ≡ length s.node_outputs = length-map s.node_outputs (λ (o : NodeOutput). o.node) in
       let total = t.output_total in
       let all = place_shown t node n in
-      let least_is = le-ltb n n (omega arith) in
-      (rw least_is at all) ∙ rw (take_all n (output_nodes s) (omega arith)) (times_filtered node s.node_outputs)
+      (rw (min-eq_left {n = n} {m = n} (omega arith)) at all) ∙ rw (take_all n (output_nodes s) (omega arith)) (times_filtered node s.node_outputs)
 
   own_is : (f : ℕ → Part) (h : NodeOutput → Part)
       → ((o : ℕ) → o < length s.node_outputs → (get_or s.node_outputs o no_output).node ≡ node

@@ -1,5 +1,5 @@
 -- The loop of place_among, turn by turn: how many of the outputs so far are the node's.
-use Rattle.std.specs.Prelude.{◌≡◌, List, ℕ, ◌+◌, ◌≤◌}
+use Rattle.std.specs.Prelude.{◌≡◌, List, ℕ, ◌+◌}
 use Rattle.std.proofs.Common.{◌∙◌, arith, add-one}
 use borrow.Author.Tests.{eq-eqb, ne_eqb}
 use Rattle.sheet_words.specs.Outputs.{node_times}
@@ -14,6 +14,3 @@ module _ (w : List ℕ) (node i : ℕ) {sum x : ℕ} (before : sum ≡ node_time
   pub no_more : {n : ℕ} → (x ≡ node → ⊥) → n ≡ sum → n ≡ node_times w node (i + 1)
   unfolding node_times
   no_more e d = d ∙ rw (add-one i, ← is, ne_eqb x node e) (omega arith)
-
-pub all_counted : (w : List ℕ) (node : ℕ) {sum i end : ℕ} → sum ≡ node_times w node i → i ≤ end → end ≤ i → sum ≡ node_times w node end
-all_counted w node {i} {end} e a b = let d : i ≡ end = omega arith in rw d at e

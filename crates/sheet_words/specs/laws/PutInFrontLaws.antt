@@ -1,9 +1,9 @@
 -- How parts join: what is put in front of a part makes one part of both, and the note twice goes along. All crates that write lines cite
 -- it.
-use Rattle.std.specs.Prelude.{◌≡◌, refl, Bool, true, false, ◌||◌, List, [], ◌∷◌, ◌++◌, ℕ, suc, ◌-◌, ◌≤◌, length, set}
+use Rattle.std.specs.Prelude.{◌≡◌, refl, Bool, ◌||◌, List, [], ◌∷◌, ◌++◌, ℕ, suc, ◌-◌, ◌≤◌, length, set}
 use Rattle.std.proofs.Math.Path.{sym}
 use Rattle.std.proofs.Common.{◌∙◌, arith, length-append}
-use Rattle.std.proofs.Math.Bool.{or-false, or-true}
+use Rattle.std.proofs.Math.Bool.{or-false}
 use Rattle.std.proofs.Math.Seq.{set_out}
 use Rattle.meaning.specs.facts.Tests.{or_assoc_comm}
 use Rattle.nesting.specs.Nesting.{plain}
@@ -67,12 +67,6 @@ module _ (out : List ℕ) (at : Place) (x : ℕ) {e : ℕ} (before : e ≡ at.en
   pub put_nowhere : length out ≤ e → Puts out at (plain (x ∷ [])) out (record { end = e; twice = at.twice })
   unfolding written
   put_nowhere h = record { end = before; twice = sym (or-false at.twice); words = sym (rw (← before) (set_out out e x h)) }
-
-pub noted_true : (at : Place) {b : Bool} → b ≡ true → record { end = at.end; twice = true } ≡ noted at b
-noted_true at e = rw (e, or-true at.twice)
-
-pub noted_false : (at : Place) {b : Bool} → b ≡ false → at ≡ noted at b
-noted_false at e = rw (e, or-false at.twice)
 
 -- A note taken first, then its words.
 pub puts_noted : {out out' : List ℕ} {at at₁ at' : Place} {b : Bool} {xs : List ℕ} → at₁ ≡ noted at b → Puts out at₁ (plain xs) out' at'

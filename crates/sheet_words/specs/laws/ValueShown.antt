@@ -4,6 +4,7 @@ use Rattle.std.proofs.Math.Path.{refl}
 use Rattle.std.proofs.Common.{sym, ap, ◌∙◌, arith, take_all}
 use Prim.Native.Nat.{ℕ, zero, suc, ◌+◌, ◌-◌, ◌≤◌, ◌<◌}
 use Rattle.std.proofs.Math.Decide.{dec_lt}
+use Rattle.std.proofs.Math.Nat.{min-eq_left, min-eq_right}
 use Rattle.std.proofs.Math.ListN.{length, get_or-eq_default}
 use Rattle.std.proofs.lemmas.List.{length-map}
 use Rattle.std.proofs.Math.Seq.{take-suc}
@@ -60,8 +61,8 @@ module _ {w : List ℕ} {s : NestState} (t : ShowsTables w s) where
       let total = t.output_total in
       let size : length (output_nodes s) ≡ length s.node_outputs = length-map s.node_outputs (λ (o : NodeOutput). o.node) in
       elim (dec_lt o (length s.node_outputs)) [
-        | yes h ↦ rw (lt-ltb o (word w head outputs_at) (omega arith)) (times_shown n o (omega arith))
-        | no h ↦ rw (le-ltb o (word w head outputs_at) (omega arith), total) (times_shown n (length s.node_outputs) (omega arith)
+        | yes h ↦ rw (min-eq_left {n = o} {m = word w head outputs_at} (omega arith)) (times_shown n o (omega arith))
+        | no h ↦ rw (min-eq_right {n = word w head outputs_at} {m = o} (omega arith), total) (times_shown n (length s.node_outputs) (omega arith)
             ∙ ap (times_in n) (take_all (length s.node_outputs) (output_nodes s) (omega arith)
             ∙ sym (take_all o (output_nodes s) (omega arith))))
       ]

@@ -6,9 +6,6 @@ use Rattle.std.proofs.Common.{add-one, eq-eqb, ne_eqb}
 use Rattle.state_sets.specs.SetTables.{bundle_at, find_by, shifted, bundle_copied}
 use Rattle.state_words.specs.Rows.{bundle_target, no_bundle_word}
 
-pub find_start : (l : List ℕ) (start t n : ℕ) → find_by l start t (n - 0) 0 ≡ find_by l start t n 0
-find_start l start t n = let e : n - 0 ≡ n = omega arith in rw e
-
 module _ (l : List ℕ) (start t n i : ℕ) {whole : ℕ} where
   pub find_found : i < n → bundle_target l (bundle_at start i) ≡ t → find_by l start t (n - i) i ≡ whole → bundle_at start i ≡ whole
   unfolding find_by

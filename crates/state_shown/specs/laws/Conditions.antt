@@ -7,7 +7,7 @@ use Rattle.std.proofs.lemmas.List.Edits.{sets}
 use Rattle.std.proofs.Math.Decide.{dec_lt}
 use Rattle.meaning.specs.Graph.{Value, SelectionKind, Graph}
 use Rattle.nesting.specs.Nesting.{LazyCond, LazyConds, merge, NestState, define, define_merge, add_merge, most_merges}
-use Rattle.state_words.specs.declared.defined.Defined.{Defined}
+use Rattle.state_words.specs.Totals.{Defined}
 use Rattle.state_words.specs.Sections.{section, word, stored, stored_all, head, rewrites, outputs, conditions, cells, used, start, size}
 use Rattle.state_words.specs.laws.Apart.{section_other}
 use Rattle.state_nodes.specs.NodeTables.{MergeDefined, merge_defined, merges_full, shape_size, select_word}

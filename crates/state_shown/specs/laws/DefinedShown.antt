@@ -3,14 +3,14 @@ use Rattle.std.specs.Prelude.{◌≡◌, refl, List, ℕ}
 use Rattle.std.proofs.Common.{subst}
 use Rattle.meaning.specs.facts.Tests.{clash}
 use Rattle.nesting.specs.Nesting.{StepAnswer, turned_away}
-use Rattle.state_words.specs.declared.defined.Defined.{Defined}
-use Rattle.state_words.specs.declared.defined.Defined.TheVariants.{Number, Full}
+use Rattle.std.specs.Prelude.{Ok}
+use Rattle.state_words.specs.Totals.{Defined, Full}
 use Rattle.state_shown.specs.Values.{value}
 use Rattle.state_shown.specs.Tables.{ShowsDefined, shows_done, shows_full, Done}
 use Rattle.format.specs.Refusals.{too_many}
 
 pub done_of : {A : Type 0} {R : ℕ → A → Type 0} {w : List ℕ} {a : Defined} {b : StepAnswer A} → ShowsDefined R w a b → {x : ℕ}
-    → a ≡ Number x
+    → a ≡ Ok x
     → Done R w x b
 done_of {R} (shows_done {x} {a} {s} r t) {x = y} e =
     let same : x ≡ y = cc in record { value = a; state = s; is = refl; shows = subst (λ z. R z a) same r; tables = t }

@@ -6,7 +6,7 @@ use Rattle.meaning.specs.Lists.{pick}
 use Rattle.record.specs.Stands.{Stands}
 use Rattle.fields.specs.laws.Unchanged.{still_stands}
 use Rattle.state_nodes.specs.declared.cells.Cell.{Cell}
-use Rattle.state_words.specs.declared.defined.Defined.{Defined}
+use Rattle.state_words.specs.Totals.{Defined}
 use Rattle.state_words.specs.Sections as sections
 use Rattle.state_words.specs.Sections.{Section, number, start, size, part, stored, stored_all, front, head, kinds, cells, bundles}
 use Rattle.state_nodes.specs.NodeTables.{Adds, added, no_room}

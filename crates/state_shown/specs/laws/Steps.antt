@@ -9,7 +9,7 @@ use Rattle.std.proofs.Math.Seq.{sets, get_or-append_seam}
 use Rattle.meaning.specs.Graph.{Value, output}
 use Rattle.nesting.specs.Nesting.{NodeOutput, NestState, define, define_region, define_node, define_output, add_region, add_node}
 use Rattle.nesting.specs.Nesting.{add_attempt, with_tables, with_twice, most_regions, most_nodes, most_outputs}
-use Rattle.state_words.specs.declared.defined.Defined.{Defined}
+use Rattle.state_words.specs.Totals.{Defined}
 use Rattle.state_words.specs.Sections.{section, word, stored, stored_all, head, rewrites, outputs, start, size}
 use Rattle.state_words.specs.laws.Apart.{section_other}
 use Rattle.state_words.specs.Totals.{Defines, defined, full, attempted}

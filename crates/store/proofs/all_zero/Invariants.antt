@@ -1,12 +1,9 @@
 use mathlib.Core.Bool.{true}
 use mathlib.Core.Path.{◌≡◌}
-use Prim.Native.Nat.{◌+◌, ◌-◌, ◌≤◌}
+use Prim.Native.Nat.{◌+◌}
 use Rattle.format.specs.Store.{all_zero}
 use Rattle.store.specs.Block.{byte_place}
 use Rattle.store.proofs.all_zero.Given as goal
 
 abbrev pub invariant-loop-n : goal.invariant-loop-n
-invariant-loop-n l = (l.n ≤ l.count) × ((l.at ≡ byte_place (l.from + l.n)) × (all_zero l.bytes l.from l.n ≡ true))
-
-abbrev pub decreases-loop-n : goal.decreases-loop-n
-decreases-loop-n l = l.count - l.n
+invariant-loop-n l = (l.at ≡ byte_place (l.from + l.n)) × (all_zero l.bytes l.from l.n ≡ true)

@@ -1,11 +1,10 @@
 -- What stands in front of the lent words after W was answered: for the routines that read the record there.
-use Rattle.std.specs.Prelude.{◌≡◌, List, ◌++◌, ℕ, ◌≤◌, length, get_or, take, drop}
+use Rattle.std.specs.Prelude.{◌≡◌, List, ◌++◌, ℕ, ◌≤◌, length, get_or, take, drop, Ok}
 use Rattle.std.proofs.Common.{sym, ap, ◌∙◌, arith, take_at, drop_at}
 use Rattle.std.proofs.Math.ListN.{get_or-append}
 use Rattle.format.specs.Store.{accepted, store_words, word_at}
 use Rattle.store.specs.Layout.{record_end}
 use Rattle.store.specs.Loaded.{words_after, Loads}
-use Rattle.store.specs.declared.Loaded.TheVariants.{Words}
 use Rattle.store.specs.laws.Store.{holds_counted}
 use Rattle.meaning.specs.Lists.{tabulate}
 use Rattle.meaning.specs.facts.Elements.{length_tabulate, tabulate_at}
@@ -17,7 +16,7 @@ pub record Front (s before after : List ℕ) (w : ℕ) : Type 0 where
   pub first : get_or after 0 0 ≡ w
   pub rest : drop w after ≡ drop w before
 
-pub front : (s before after : List ℕ) (w : ℕ) → Loads s before after (Words w) → Front s before after w
+pub front : (s before after : List ℕ) (w : ℕ) → Loads s before after (Ok w) → Front s before after w
 front s before after w l =
     let h = holds_counted s w l.answer in
     let ws = tabulate w (word_at s) in

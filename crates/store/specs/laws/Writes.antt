@@ -1,5 +1,5 @@
 -- Laws of bytes that are put into the lent ones, one part behind another; and each path through what is written.
-use Rattle.std.specs.Prelude.{◌≡◌, refl, List, [], ◌∷◌, ◌++◌, ℕ, suc, ◌+◌, ◌*◌, ◌/◌, ◌%◌, ◌≤◌, ◌<◌, get_or, take}
+use Rattle.std.specs.Prelude.{◌≡◌, refl, List, [], ◌∷◌, ◌++◌, ℕ, suc, ◌+◌, ◌*◌, ◌/◌, ◌%◌, ◌≤◌, ◌<◌, get_or, take, Ok, Err}
 use Rattle.std.proofs.Common.{sym, ◌∙◌, subst, add-one, mul-le-mul, length-append, length-take, length-take-le}
 use Rattle.std.proofs.Math.Path.{ap}
 use native.Mathlib.Omega.{arith}
@@ -14,7 +14,6 @@ use Rattle.store.specs.Refusals.{refused_as}
 use Rattle.store.specs.Writes.{words_of, WritesStore, WordsPut, with_block, BlocksPut}
 use Rattle.store.specs.declared.refusals.Refusal.{Refusal}
 use Rattle.store.specs.declared.refusals.Refusal.TheVariants.{WrongWordCount, TooFewWords}
-use Rattle.store.specs.declared.write.StoreWritten.TheVariants.{Bytes, Refused}
 
 -- ---- bytes behind bytes
 pub sets_then : (l : List ℕ) (i : ℕ) (xs ys : List ℕ) (k : ℕ) → i + length xs ≡ k → sets (sets l i xs) k ys ≡ sets l i (xs ++ ys)
@@ -132,24 +131,24 @@ blocks_length {n} {ws} {out} h = ap length h.bytes ∙ length-sets out 0 (blocks
 
 -- ---- the answers
 module _ (w out : List ℕ) (room : 4048 < length w) where
-  as_lent : (why : Refusal) → written (words_of w) (length out) ≡ refused_as why → WritesStore w out out (Refused why)
+  as_lent : (why : Refusal) → written (words_of w) (length out) ≡ refused_as why → WritesStore w out out (Err why)
   as_lent why is = record { answer = ap words_counted (sym is); bytes = ap (words_after out) (sym is) }
 
-  pub refused_none : get_or w 0 0 ≡ 0 → WritesStore w out out (Refused WrongWordCount)
+  pub refused_none : get_or w 0 0 ≡ 0 → WritesStore w out out (Err WrongWordCount)
   refused_none e = as_lent WrongWordCount (written_none _ _ (omega (arith, length-take (get_or w 0 0) w)))
 
-  pub refused_over : 4048 < get_or w 0 0 → WritesStore w out out (Refused WrongWordCount)
+  pub refused_over : 4048 < get_or w 0 0 → WritesStore w out out (Err WrongWordCount)
   refused_over h = as_lent WrongWordCount (written_over _ _ (omega (arith, length-take (get_or w 0 0) w)))
 
   module _ (used : ℕ) (is : used ≡ get_or w 0 0) (some : 0 < used) (few : used ≤ 4048) where
     size : length (words_of w) ≡ used
     size = length-take-le (get_or w 0 0) w (omega arith) ∙ sym is
 
-    pub refused_short : length out < 512 * blocks_for used → WritesStore w out out (Refused TooFewWords)
+    pub refused_short : length out < 512 * blocks_for used → WritesStore w out out (Err TooFewWords)
     refused_short h = as_lent TooFewWords (written_short _ _ (omega (arith, size)) (omega (arith, size)) (rw size h))
 
     pub store_put : (out' : List ℕ) (n : ℕ) → 512 * blocks_for used ≤ length out → n ≡ blocks_for used → BlocksPut n (take used w) out out'
-        → WritesStore w out out' (Bytes (512 * blocks_for used))
+        → WritesStore w out out' (Ok (512 * blocks_for used))
     unfolding store_of
     store_put out' m h e p =
         let n = blocks_for used in

@@ -1,6 +1,6 @@
 -- Loading and writing, one after the other: what was written loads as the record that stood in the words, and what was loaded is written
 -- with the same bytes; what is kept of the lent bytes. These follow from the contracts of `load` and `write_store` alone.
-use Rattle.std.specs.Prelude.{◌≡◌, refl, List, ℕ, ◌≤◌, ◌<◌, length, get_or, take, drop}
+use Rattle.std.specs.Prelude.{◌≡◌, refl, List, ℕ, ◌≤◌, ◌<◌, length, get_or, take, drop, Ok, Err}
 use Rattle.std.proofs.Common.{sym, ap, ◌∙◌, arith, length-take, get_or-take, take_at, drop_at}
 use Rattle.meaning.specs.Lists.{All}
 use Rattle.meaning.specs.facts.Tests.{clash}
@@ -13,11 +13,9 @@ use Rattle.store.specs.Writes.{words_of, WritesStore}
 use Rattle.store.specs.laws.Front.{front}
 use Rattle.store.specs.laws.Store.{kept}
 use Rattle.store.specs.declared.refusals.Refusal.{Refusal}
-use Rattle.store.specs.declared.Loaded.TheVariants as loaded
-use Rattle.store.specs.declared.write.StoreWritten.TheVariants as wrote
 
 -- The store that was loaded is what is written, into as many bytes or more.
-pub written_as_loaded : (s before after : List ℕ) (w n : ℕ) → All (λ b. b < 256) s → Loads s before after (loaded.Words w) → length s ≤ n
+pub written_as_loaded : (s before after : List ℕ) (w n : ℕ) → All (λ b. b < 256) s → Loads s before after (Ok w) → length s ≤ n
     → written (words_of after) n ≡ accepted s
 unfolding store_of
 written_as_loaded s before after w n bytes h room =
@@ -41,7 +39,7 @@ words_written w small some few room =
     }
 
 -- What was written loads as the record's words.
-pub loaded_as_written : (w out out' : List ℕ) (n : ℕ) → All (λ x. x < 65536) w → 4048 < length w → WritesStore w out out' (wrote.Bytes n)
+pub loaded_as_written : (w out out' : List ℕ) (n : ℕ) → All (λ x. x < 65536) w → 4048 < length w → WritesStore w out out' (Ok n)
     → store_words (take n out') ≡ accepted (words_of w)
 loaded_as_written w out out' n small room h = by_answer (written (words_of w) (length out)) refl h.answer h.bytes
   where
@@ -56,10 +54,10 @@ loaded_as_written w out out' n small room h = by_answer (written (words_of w) (l
         ∙ reads_back (words_of w) (words_written w small g.some g.few room)
 
 -- A refusal writes no byte, and a store none behind it.
-pub refusal_keeps : (w out out' : List ℕ) (why : Refusal) → WritesStore w out out' (wrote.Refused why) → out' ≡ out
+pub refusal_keeps : (w out out' : List ℕ) (why : Refusal) → WritesStore w out out' (Err why) → out' ≡ out
 refusal_keeps w out out' why h = h.bytes ∙ sym (kept out (written (words_of w) (length out)) _ _ h.answer)
 
-pub beyond_kept : (w out out' : List ℕ) (n : ℕ) → WritesStore w out out' (wrote.Bytes n) → drop n out' ≡ drop n out
+pub beyond_kept : (w out out' : List ℕ) (n : ℕ) → WritesStore w out out' (Ok n) → drop n out' ≡ drop n out
 beyond_kept w out out' n h = by_answer (written (words_of w) (length out)) h.answer h.bytes
   where
     by_answer : (a : Answer (List ℕ)) → accepted n ≡ words_counted a → out' ≡ words_after out a → drop n out' ≡ drop n out

@@ -1,15 +1,13 @@
 -- A text that is whole: where it stands, and what a buffer too small gets.
-use Rattle.std.specs.Prelude.{◌≡◌, refl, Bool, true, false, List, [], ◌∷◌, ◌++◌, ℕ, suc, ◌+◌, ◌≤◌, ◌<◌, min, length, take, drop, leb}
+use Rattle.std.specs.Prelude.{◌≡◌, refl, Bool, true, false, List, [], ◌∷◌, ◌++◌, ℕ, suc, ◌+◌, ◌≤◌, ◌<◌, min, length, take, drop, leb, Ok}
 use Rattle.std.proofs.Common.{sym, ap, ◌∙◌, append-nil, arith, length-append, take_all, take_at, le-leb, leb-true, leb-false}
 use Rattle.std.proofs.lemmas.List.{set_at}
 use Rattle.std.proofs.Math.Seq.{set_out, take-nil, append_snoc}
 use Rattle.std.proofs.lemmas.Bool.{lt-leb}
-use Rattle.text.specs.declared.Written.{Written}
-use Rattle.text.specs.declared.Written.TheVariants.{Bytes, Full}
 use Rattle.text.specs.Buffer.{buffer, puts, Wrote}
 use Rattle.meaning.specs.Lists.{pick}
 use Rattle.meaning.specs.facts.Tests.{clash}
-use Rattle.text.specs.Whole.{written_to, Whole, InFront}
+use Rattle.text.specs.Whole.{Written, full, written_to, Whole, InFront}
 
 beyond : (t b : List ℕ) (at : ℕ) → length b < at → puts (buffer b at) t ≡ buffer b at
 unfolding puts
@@ -36,7 +34,7 @@ behind (x ∷ t) (y ∷ rest) front at h =
     ∙ same (append_snoc front x _) (omega arith))
 
 answer_by : (t : Bool) (size room place : ℕ) → leb size room ≡ t → place ≡ min size (room + 1)
-    → written_to room place ≡ pick t (Bytes size) Full
+    → written_to room place ≡ pick t (Ok size) full
 answer_by true size room place e h =
     let fits : size ≤ room = leb-true size room e in
     let q : place ≡ size = omega arith in
@@ -58,10 +56,10 @@ whole text before after place w =
 
 -- A buffer of the text's length or more holds it whole.
 pub room_enough : {text before after : List ℕ} {r : Written} → Whole text before after r → length text ≤ length before
-    → r ≡ Bytes (length text)
+    → r ≡ Ok (length text)
 room_enough {text} {before} w l = w.answer ∙ rw (le-leb (length text) (length before) l)
 
-pub in_front : {text before after : List ℕ} {r : Written} {n : ℕ} → Whole text before after r → r ≡ Bytes n → InFront text after n
+pub in_front : {text before after : List ℕ} {r : Written} {n : ℕ} → Whole text before after r → r ≡ Ok n → InFront text after n
 in_front {text} {before} {after} {r} {n} w is = by_answer (leb (length text) (length before)) refl
   where
     by_answer : (t : Bool) → leb (length text) (length before) ≡ t → InFront text after n
@@ -76,5 +74,5 @@ in_front {text} {before} {after} {r} {n} w is = by_answer (leb (length text) (le
           is = ap (λ a. take n a) parts ∙ take_at text _ n (sym size);
         }
     by_answer false e =
-        let full : r ≡ Full = w.answer ∙ rw e in
+        let none : r ≡ full = w.answer ∙ rw e in
         absurd (clash (cc))

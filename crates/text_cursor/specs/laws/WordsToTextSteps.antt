@@ -1,7 +1,7 @@
 -- How one reading follows another, and what the next words make of one.
 use Rattle.std.specs.Prelude.{◌≡◌, Bool, ℕ, suc, ◌+◌, ◌≤◌, ◌<◌, length, get_or, drop}
 use Rattle.std.proofs.Math.Path.{refl, ap}
-use Rattle.std.proofs.Common.{sym, ◌∙◌, arith, add-one, length-drop, drop_of_length-le, drop-cons, le-leb, leb-true, leb-false}
+use Rattle.std.proofs.Common.{sym, subst, ◌∙◌, arith, add-one, length-drop, drop_of_length-le, drop-cons, le-leb, leb-true, leb-false}
 use Rattle.std.proofs.Math.Bool.{true, false}
 use mathlib.Core.List.{List, [], ◌∷◌, ◌++◌}
 use Rattle.std.proofs.Math.Dec.{leb}
@@ -14,7 +14,7 @@ use Rattle.nesting.specs.decoding.Decode.{Decoded, decoded, nothing, next_word, 
 use Rattle.text_cursor.specs.declared.cursor.SheetCursor.{SheetCursor}
 use Rattle.text_cursor.specs.Lines.{TextReader}
 use Rattle.text_cursor.specs.Texts.{say, ◌then◌}
-use Rattle.text_cursor.specs.WordsToText.{words_from, reading, read_text, PutsText, PutsWithin, Stopped}
+use Rattle.text_cursor.specs.WordsToText.{words_from, reading, read_text, PutsText, PutsWithin, NextWord, Stopped}
 
 pub from_inside : (ws : List ℕ) (at : ℕ) → at ≤ length ws → words_from ws at ≡ decoded tt (drop at ws)
 unfolding words_from
@@ -172,6 +172,18 @@ module _ {ws before after : List ℕ} {c d : SheetCursor} {r : TextReader} where
   pub puts_refused : c.at < length ws → ((rest : List ℕ) → r (get_or ws c.at 0 ∷ rest) ≡ nothing) → Stopped ws c d
       → PutsText r ws c before after d
   puts_refused l h s = puts_none (λ k. rw (drop-cons ws c.at 0 l) (h (drop (suc c.at) ws))) s
+
+-- The next word as the code reads it.
+module _ {ws before after : List ℕ} {c d e : SheetCursor} {w : ℕ} {r : TextReader} (n : NextWord ws c w d) where
+  pub puts_word : {q : TextReader} → ((rest : List ℕ) → r (w ∷ rest) ≡ q rest) → PutsText q ws d before after e
+      → PutsText r ws c before after e
+  puts_word {q} h a =
+      puts_next n.inside (subst (λ v. (rest : List ℕ) → r (v ∷ rest) ≡ q rest) n.word h)
+      (subst (λ p. PutsText q ws (record { at = c.at + 1; place = p }) before after e) n.place
+      (subst (λ x. PutsText q ws (record { at = x; place = d.place }) before after e) n.at a))
+
+  pub puts_no_word : ((rest : List ℕ) → r (w ∷ rest) ≡ nothing) → Stopped ws c e → PutsText r ws c before after e
+  puts_no_word h s = puts_refused n.inside (subst (λ v. (rest : List ℕ) → r (v ∷ rest) ≡ nothing) n.word h) s
 
 -- Beyond the end nothing is read any more.
 pub puts_beyond : {ws bytes : List ℕ} {c : SheetCursor} {r : TextReader} → length ws < c.at → PutsText r ws c bytes bytes c

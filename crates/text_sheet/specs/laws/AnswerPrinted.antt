@@ -14,10 +14,8 @@ use Rattle.nesting.specs.Sheet.{Sheet, sheet_of, sheet_words, sheet_text, figure
 use Rattle.nesting.specs.Sheet.{answer_text}
 use Rattle.nesting.specs.decoding.Decode.{words_text}
 use Rattle.nesting.specs.decoding.RoundTrip.{words_text_is}
-use Rattle.text.specs.declared.Written.{Written}
-use Rattle.text.specs.declared.Written.TheVariants.{Full}
 use Rattle.text.specs.Text.{labeled, refusal_text}
-use Rattle.text.specs.Whole.{Whole}
+use Rattle.text.specs.Whole.{Written, full, Whole}
 use Rattle.text.specs.laws.WholeTexts.{room_enough}
 use Rattle.text.specs.laws.Lengths.{refusal_length}
 use Rattle.text_sheet.specs.Answers.{SheetPrinted}
@@ -88,8 +86,8 @@ module _ (store : List ℕ) (lent : ℕ) where
     pub sheet_answered : Whole (answer_text (answer store lent)) before after r
     sheet_answered = rw (words_answered ws h).text at p.text
 
-    pub sheet_room : 16 * lent ≤ length before → r ≡ Full → ⊥
-    sheet_room l full = let whole = p.fits (omega (arith, (words_answered ws h).few)) in clash (cc)
+    pub sheet_room : 16 * lent ≤ length before → r ≡ full → ⊥
+    sheet_room l too_small = let whole = p.fits (omega (arith, (words_answered ws h).few)) in clash (cc)
 
   -- The refusal's line, printed: 20 bytes are enough.
   module _ {n w : ℕ} {before after : List ℕ} {r : Written} (p : Whole (refusal_text n w) before after r) where
@@ -104,5 +102,5 @@ module _ (store : List ℕ) (lent : ℕ) where
             let word : v ≡ w = cc in
             rw (number, word, ← refusal_is n w) p
 
-    pub refusal_room : n < 65536 → w < 65536 → 20 ≤ length before → r ≡ Full → ⊥
-    refusal_room a b l full = let whole = room_enough p (omega (arith, refusal_length n w a b)) in clash (cc)
+    pub refusal_room : n < 65536 → w < 65536 → 20 ≤ length before → r ≡ full → ⊥
+    refusal_room a b l too_small = let whole = room_enough p (omega (arith, refusal_length n w a b)) in clash (cc)

@@ -1,5 +1,5 @@
 -- From words read and text written to what is answered.
-use Rattle.std.specs.Prelude.{◌≡◌, Bool, List, [], ℕ, ◌+◌, ◌-◌, ◌≤◌, ◌<◌, drop, leb}
+use Rattle.std.specs.Prelude.{◌≡◌, Bool, List, [], ℕ, ◌+◌, ◌-◌, ◌≤◌, ◌<◌, drop, leb, Ok, Err}
 use Rattle.std.proofs.Math.Path.{refl, sym, ap}
 use Rattle.std.proofs.Common.{◌∙◌, arith, drop_of_length-le, le-leb, leb-true, leb-false}
 use Rattle.std.proofs.Math.Bool.{true, false}
@@ -8,21 +8,18 @@ use Rattle.std.proofs.Math.Seq.{get_or-drop, take-nil}
 use Rattle.meaning.specs.facts.Tests.{clash}
 use Rattle.meaning.specs.Lists.{pick}
 use Rattle.meaning.specs.Text.{Text}
-use Rattle.text.specs.declared.Written.{Written}
-use Rattle.text.specs.declared.Written.TheVariants as answers
 use Rattle.text.specs.Buffer.{buffer, Wrote}
-use Rattle.text.specs.Whole.{Whole, written_to}
+use Rattle.text.specs.Whole.{Written, full, Whole, written_to}
 use Rattle.text.specs.laws.WholeTexts.{whole, room_enough}
 use Rattle.nesting.specs.Sheet.{sheet_text}
 use Rattle.nesting.specs.decoding.Lines.{TypedSheet, as_sheet}
 use Rattle.nesting.specs.decoding.Decode.{Decoded, decoded, nothing, next_word, decode_as, decode_sheet, text_of_got, words_text}
 use Rattle.text_cursor.specs.declared.cursor.SheetCursor.{SheetCursor}
-use Rattle.text_sheet.specs.declared.Printed.{Printed}
-use Rattle.text_sheet.specs.declared.Printed.TheVariants.{Line, Full, NoLine}
+use Rattle.text_sheet.specs.declared.NotPrinted.TheVariants.{Full, NoLine}
 use Rattle.text_cursor.specs.Lines.{TextReader, shown, decoded_sheet_text}
 use Rattle.text_cursor.specs.WordsToText.{PutsText, words_from, reading, read_text}
 use Rattle.text_cursor.specs.laws.WordsToTextSteps.{from_inside, from_beyond, missing}
-use Rattle.text_sheet.specs.Answers.{text_of, LinePrinted, SheetPrinted}
+use Rattle.text_sheet.specs.Answers.{text_of, Printed, printed, LinePrinted, SheetPrinted}
 use Rattle.text_fields.specs.laws.Room.{WordsOf32Bits, Fits}
 use Rattle.text_sheet.specs.laws.LineRoom.{words_text_fits}
 
@@ -88,36 +85,36 @@ module _ {read : TextReader} {ws before after : List ℕ} {c d : SheetCursor} (p
 
 -- ---- a line
 line_written : ℕ → Written → Printed
-line_written next (answers.Bytes n) = Line next n
-line_written next answers.Full = Full
+line_written next (Ok n) = printed next n
+line_written next (Err e) = Err Full
 
 module _ {read : TextReader} {ws : List ℕ} {at : ℕ} where
-  pub line_missing : {bytes : List ℕ} → read (drop at ws) ≡ nothing → LinePrinted read ws at bytes bytes NoLine
+  pub line_missing : {bytes : List ℕ} → read (drop at ws) ≡ nothing → LinePrinted read ws at bytes bytes (Err NoLine)
   line_missing {bytes} e = record {
     answer = rw e refl;
     bytes = rw (e, take-nil (length bytes)) refl;
-    fits = λ l full. clash (cc);
+    fits = λ l too_small. clash (cc);
   }
 
   pub line_printed : {before after : List ℕ} {d : SheetCursor} {r : Printed} → Fits 0 0 read → WordsOf32Bits ws → Found read ws at
       → PutsText read ws (record { at = at; place = 0 }) before after d → length after ≡ length before
-      → r ≡ pick (leb d.place (length after)) (Line d.at d.place) Full → LinePrinted read ws at before after r
+      → r ≡ pick (leb d.place (length after)) (printed d.at d.place) (Err Full) → LinePrinted read ws at before after r
   unfolding line_written
   line_printed {before} {after} {d} {r} fit small f p size is =
       let t = f.text in
       let w = whole t before after d.place (found_written p f) in
-      let by : r ≡ pick (leb (length t) (length before)) (Line (length ws - length f.rest) (length t)) Full =
-      is ∙ ap (λ room. pick (leb d.place room) (Line d.at d.place) Full) size
-      ∙ ap (λ next. pick (leb d.place (length before)) (Line next d.place) Full) (found_next p f)
-      ∙ sym (over_tests _ (leb d.place (length before)) _ answers.Full) ∙ ap (line_written (length ws - length f.rest)) w.answer
-      ∙ over_tests _ (leb (length t) (length before)) _ answers.Full in
+      let by : r ≡ pick (leb (length t) (length before)) (printed (length ws - length f.rest) (length t)) (Err Full) =
+      is ∙ ap (λ room. pick (leb d.place room) (printed d.at d.place) (Err Full)) size
+      ∙ ap (λ next. pick (leb d.place (length before)) (printed next d.place) (Err Full)) (found_next p f)
+      ∙ sym (over_tests _ (leb d.place (length before)) _ full) ∙ ap (line_written (length ws - length f.rest)) w.answer
+      ∙ over_tests _ (leb (length t) (length before)) _ full in
       record {
         answer = by ∙ rw f.is refl;
         bytes = w.bytes ∙ rw f.is refl;
-        fits = λ l full.
+        fits = λ l too_small.
             let enough = fit.few (drop at ws) (λ k. rw get_or-drop (small (at + k))) t f.rest f.is in
             let room : length t ≤ length before = omega (arith, simp length-drop at enough.bytes) in
-            let line : r ≡ Line (length ws - length f.rest) (length t) = by ∙ rw (le-leb (length t) (length before) room) refl in
+            let line : r ≡ printed (length ws - length f.rest) (length t) = by ∙ rw (le-leb (length t) (length before) room) refl in
             clash (cc);
       }
     where
@@ -140,7 +137,7 @@ unfolding shown next_word decode_sheet
 no_sheet = refl
 
 module _ {ws : List ℕ} where
-  pub sheet_missing : {bytes : List ℕ} → decoded_sheet_text ws ≡ nothing → SheetPrinted ws bytes bytes (answers.Bytes 0)
+  pub sheet_missing : {bytes : List ℕ} → decoded_sheet_text ws ≡ nothing → SheetPrinted ws bytes bytes (Ok 0)
   sheet_missing {bytes} e =
       let none : words_text ws ≡ [] = words_text_read ws ∙ ap text_of e in
       record {

@@ -9,10 +9,11 @@ use Rattle.record.specs.Stands.{Stands}
 use Rattle.state_words.specs.Sections.{word, set_lengths}
 use Rattle.state_shown.specs.laws.FrontKept.{stands_on}
 use Rattle.cfg_start.specs.laws.shown.Started.{started_front}
+use Rattle.std.specs.Prelude.{Err, Ok, Result}
 use Rattle.cfg_regions.specs.declared.claim.Claim as code
 use Rattle.cfg_regions.specs.declared.claim.Claim.TheVariants as claim
-use Rattle.cfg.specs.declared.func.Nested.{Nested}
-use Rattle.cfg.specs.declared.func.Nested.TheVariants.{Untouched, Whole, Closed, Leftover, Refused}
+use Rattle.cfg.specs.declared.func.Outcome.{Outcome}
+use Rattle.cfg.specs.declared.func.Outcome.TheVariants.{Untouched, Whole, Closed, Leftover}
 use Rattle.cfg_regions.specs.ByInst.{own_bundle}
 use Rattle.cfg_claims.specs.Claims.{own_target, TriesClaim, Stood}
 use Rattle.cfg.specs.Func.{Outcomes, is_closed, is_whole, one_elsewhere, more_left, Begins, entered_once, Concludes, claimed}
@@ -40,14 +41,14 @@ module _ (w : List ℕ) (entry : ℕ) {n : ℕ} (size : n ≡ word w set_lengths
     pub other_edge : (t ≡ return_word → ⊥) → Outcomes w entry Leftover
     other_edge d = one_elsewhere (sym size ∙ one) (λ z. d (target_is ∙ z))
 
-module _ {g : Graph} {w : List ℕ} {c : code.Claim} where
-  pub of_claimed : c ≡ claim.Claimed → {entry : ℕ} → entry ≡ g.entry → {o : Nested} → Outcomes w entry o → Concludes g w c o
+module _ {g : Graph} {w : List ℕ} {c : Result code.Claim Refusal} where
+  pub of_claimed : c ≡ Ok claim.Claimed → {entry : ℕ} → entry ≡ g.entry → {o : Outcome} → Outcomes w entry o → Concludes g w c (Ok o)
   of_claimed e of_entry x = rw e (claimed (rw of_entry at x))
 
-  pub of_unclaimed : c ≡ claim.Unclaimed → Concludes g w c (Refused (Never 0))
+  pub of_unclaimed : c ≡ Ok claim.Unclaimed → Concludes g w c (Err (Never 0))
   of_unclaimed e = rw e unclaimed
 
-  pub of_refused : {y : Refusal} → c ≡ claim.Refused y → Concludes g w c (Refused y)
+  pub of_refused : {y : Refusal} → c ≡ Err y → Concludes g w c (Err y)
   of_refused e = rw e refused
 
 -- ---- The three, one after the other.
@@ -67,7 +68,7 @@ module _ {w counts w₁ : List ℕ} (begins : (g : Graph) → Stands w g → Beg
 
   module _ {once : Bool} (test : (g : Graph) → Stands w₁ g → once ≡ entered_once g counts) (g : Graph) (st : Stands w g) (valid : Valid g)
     where
-      pub func_untouched : once ≡ false → Func g w w₁ Untouched
+      pub func_untouched : once ≡ false → Func g w w₁ (Ok Untouched)
       func_untouched e =
           let b = begins g st in
           record {
@@ -76,7 +77,7 @@ module _ {w counts w₁ : List ℕ} (begins : (g : Graph) → Stands w g → Beg
             steps = untouched (eqb-false (get_or counts g.entry 0) 1 (sym (test g (stands_begun g st)) ∙ e)) b.begun;
           }
 
-      pub func_concluded : once ≡ true → {w' : List ℕ} {c : code.Claim} {a : Nested}
+      pub func_concluded : once ≡ true → {w' : List ℕ} {c : Result code.Claim Refusal} {a : Result Outcome Refusal}
           → ((g : Graph) → Stands w₁ g → TriesClaim g counts w₁ g.entry 1 w' c)
           → ((g : Graph) → Stands w' g → Concludes g w' c a) → Func g w w' a
       func_concluded e claims concludes =

@@ -42,11 +42,9 @@ use Rattle.state_shown.specs.States.{ShowsState, ShowsBody, ShowsRegion, is_not_
 use Rattle.state_shown.specs.States.{ShowsOwnSet, no_case}
 use Rattle.state_shown.specs.laws.RegionsKept.{body_stays, claimed_stays, own_set_stays}
 use Rattle.state_shown.specs.laws.RegionSteps.{state_stays, concerns_states, state_next, states_by, preserves_by, kept_by, named_by}
-use Rattle.state_words.specs.declared.defined.Made.{Made}
+use Rattle.state_words.specs.Totals.{Made}
+use Rattle.std.specs.Prelude.{Err, Ok, Result, ⊤}
 use Rattle.cfg_regions.specs.declared.claim.Claim as code
-use Rattle.cfg_regions.specs.declared.claim.Claim.TheVariants.{Refused}
-use Rattle.store.specs.declared.Verdict.{Verdict}
-use Rattle.store.specs.declared.Verdict.TheVariants as step
 use Rattle.cfg_claims.specs.SplitOut as split
 use Rattle.cfg_regions.specs.ByState.{ClaimsByState, unclaimed_word, is_trivial}
 use Rattle.cfg_regions.specs.ByInst.{ByControlInst, ResolvesBy}
@@ -84,7 +82,7 @@ pub record ShownParts (g : Graph) (valid : Valid g) : Type 0 where
   pub few : length g.regions ≤ 32
   pub few_targets : (r : ℕ) → length (edges_of (region g r).terminator) ≤ 8
   pub few_incoming : (q : ℕ) → (K g valid).incoming q ≤ 65534
-  pub by_state : {w w' : List ℕ} {r n : ℕ} {a : code.Claim} → ClaimsByState g w r n (get_or (incoming_edge_counts g) r 0) w' a
+  pub by_state : {w w' : List ℕ} {r n : ℕ} {a : Result code.Claim Refusal} → ClaimsByState g w r n (get_or (incoming_edge_counts g) r 0) w' a
       → (fuel : ℕ) (H : ℕ → ℕ) (s : NestState) (inputs : List Value) → ShowsState g w s → cells_in_all g w ≤ most_cells_in_all
       → is_in r (K g valid).live ≡ true → length inputs ≡ length (region g r).inputs → (region_kind w r ≡ kind_not_begun → ⊥)
       → 1 ≤ n → CanClaim g valid fuel H (λ q. edges_to q (to_region r) n) 0 s
@@ -196,7 +194,7 @@ module _ {g : Graph} {w : List ℕ} {s : NestState} (shown : ShowsState g w s) (
       (omega arith) in omega arith
 
 -- What is shown from later words on, from earlier ones on.
-claim_before : {g : Graph} {w w₁ w' : List ℕ} {r : ℕ} {inputs : List Value} {b b' : StepAnswer (Option ClaimedRegion)} {a : code.Claim}
+claim_before : {g : Graph} {w w₁ w' : List ℕ} {r : ℕ} {inputs : List Value} {b b' : StepAnswer (Option ClaimedRegion)} {a : Result code.Claim Refusal}
     → PreservesOccupied g w w₁ → (Occupied w r → Occupied w₁ r) → cells_in_all g w₁ ≤ cells_in_all g w → b ≡ b'
     → ClaimShows g w₁ w' r inputs b' a
     → ClaimShows g w w' r inputs b a
@@ -206,8 +204,8 @@ claim_before u on c e (shows_unclaimed {s'} p st v k) = shows_unclaimed {s' = s'
 claim_before u on c e (shows_refused {y} p) = shows_refused {y = y} (e ∙ p)
 
 refused_from : {g : Graph} {w w₁ w' : List ℕ} {r : ℕ} {inputs : List Value} {b : StepAnswer (Option ClaimedRegion)} {c : StepAnswer Unit}
-    {y : Refusal} → (c ≡ turned_as y → b ≡ turned_as y) → RegionShows g w₁ w' c (step.Refused y)
-    → ClaimShows g w w' r inputs b (Refused y)
+    {y : Refusal} → (c ≡ turned_as y → b ≡ turned_as y) → RegionShows g w₁ w' c (Err y)
+    → ClaimShows g w w' r inputs b (Err y)
 refused_from f (refuses_region {y} p) = shows_refused {y = y} (f p)
 
 -- ---- The definition's claim, by the state of its region.
@@ -422,7 +420,7 @@ module _ {g : Graph} {w w₁ : List ℕ} {r j : ℕ} {s₁ : NestState} (few : l
 
 -- No target left.
 targets_over : (g : Graph) (valid : Valid g) (fuel r j : ℕ) (s : NestState) {w : List ℕ} → ShowsState g w s
-    → TargetsShow g w w r j [] (target_regions g (try_claim_edge_bundle g (incoming_edge_counts g) fuel) [] s) step.Right
+    → TargetsShow g w w r j [] (target_regions g (try_claim_edge_bundle g (incoming_edge_counts g) fuel) [] s) (Ok tt)
 unfolding target_regions
 targets_over g valid fuel r j s {w} shown =
     shows_targets refl shown refl (λ k b. absurd (omega arith))
@@ -481,13 +479,13 @@ module _ (g : Graph) (valid : Valid g) (parts : ShownParts g valid) (counts : Li
       (right_in_cases g valid fuel s₀ r H x s can y s₁ p)
 
   -- What is shown of a claim, and of targets from place j on, whatever state the words show.
-  abbrev ClaimFor : List ℕ → List ℕ → ℕ → ℕ → code.Claim → Type 0
+  abbrev ClaimFor : List ℕ → List ℕ → ℕ → ℕ → Result code.Claim Refusal → Type 0
   ClaimFor w w' r n a =
       (fuel : ℕ) (H : ℕ → ℕ) (s : NestState) (inputs : List Value) → ShowsState g w s → cells_in_all g w ≤ most_cells_in_all
       → is_in r (K g valid).live ≡ true → 1 ≤ n → length inputs ≡ length (region g r).inputs
       → CanClaim g valid fuel H (λ q. edges_to q (to_region r) n) 1 s → ClaimShows g w w' r inputs (defined fuel r n inputs s) a
 
-  abbrev TargetsFor : List ℕ → List ℕ → ℕ → ℕ → Verdict → Type 0
+  abbrev TargetsFor : List ℕ → List ℕ → ℕ → ℕ → Result ⊤ Refusal → Type 0
   TargetsFor w w' r j a =
       (fuel : ℕ) (H : ℕ → ℕ) (s : NestState) → ShowsState g w s → cells_in_all g w ≤ most_cells_in_all → r < length g.regions
       → region_kind w r ≡ kind_in_progress
@@ -495,7 +493,7 @@ module _ (g : Graph) (valid : Valid g) (parts : ShownParts g valid) (counts : Li
       → CanClaim g valid fuel H (aims (K g valid) (drop j (its_edges r))) (length (drop j (its_edges r))) s
       → TargetsShow g w w' r j (drop j (its_edges r)) (target_regions g (defined fuel) (drop j (its_edges r)) s) a
 
-  first_targets : {w w₁ : List ℕ} {r : ℕ} {a : Verdict} → TargetsFor (stored w kinds r kind_in_progress) w₁ r 0 a → (fuel : ℕ) (H : ℕ → ℕ)
+  first_targets : {w w₁ : List ℕ} {r : ℕ} {a : Result ⊤ Refusal} → TargetsFor (stored w kinds r kind_in_progress) w₁ r 0 a → (fuel : ℕ) (H : ℕ → ℕ)
       (s : NestState) → ShowsState g w s → cells_in_all g w ≤ most_cells_in_all → NotBegun w r → CanBegin g valid fuel H r s
       → TargetsShow g (stored w kinds r kind_in_progress) w₁ r 0 (its_edges r)
       (target_regions g (defined fuel) (its_edges r) (with_state s r in_progress)) a
@@ -507,7 +505,7 @@ module _ (g : Graph) (valid : Valid g) (parts : ShownParts g valid) (counts : Li
       (can_targets g valid fuel H r s can)
 
   -- The claim of the first of a region's targets.
-  first_claim_shown : {w w₁ : List ℕ} (r j : ℕ) {a : code.Claim} → ClaimFor w w₁ (edge_of g r j).target 1 a → (fuel : ℕ)
+  first_claim_shown : {w w₁ : List ℕ} (r j : ℕ) {a : Result code.Claim Refusal} → ClaimFor w w₁ (edge_of g r j).target 1 a → (fuel : ℕ)
       (H : ℕ → ℕ) (s : NestState) → ShowsState g w s → cells_in_all g w ≤ most_cells_in_all
       → AllLive (K g valid) (edge_of g r j ∷ drop (suc j) (its_edges r)) → EdgesUsable g r (edge_of g r j ∷ drop (suc j) (its_edges r))
       → CanClaim g valid fuel H (aims (K g valid) (edge_of g r j ∷ drop (suc j) (its_edges r)))
@@ -521,7 +519,7 @@ module _ (g : Graph) (valid : Valid g) (parts : ShownParts g valid) (counts : Li
       (can_first g valid fuel e rest H can)
 
   -- The claim of bundle i of region r's set.
-  bundle_claim : {w w₁ : List ℕ} (r i : ℕ) {a : code.Claim} → ClaimFor w w₁ (own_target w r i) (own_count w r i) a → (fuel : ℕ)
+  bundle_claim : {w w₁ : List ℕ} (r i : ℕ) {a : Result code.Claim Refusal} → ClaimFor w w₁ (own_target w r i) (own_count w r i) a → (fuel : ℕ)
       (H : ℕ → ℕ) (s : NestState) (d : DeferredEdgeBundleSet) → ShowsState g w s → cells_in_all g w ≤ most_cells_in_all
       → ShowsOwnSet g w r d
       → (l : i < length d) → CanScan g valid fuel H d i s → (there : GoesTo g (own_target w r i) (get_or d i no_bundle).target)
@@ -540,7 +538,7 @@ module _ (g : Graph) (valid : Valid g) (parts : ShownParts g valid) (counts : Li
   mutual
     unfolding structurize_region target_regions split_out_matching resolve_deferred
 
-    pub claim_shown : {w w' : List ℕ} {r n : ℕ} {a : code.Claim} → TriesClaim g counts w r n w' a → ClaimFor w w' r n a
+    pub claim_shown : {w w' : List ℕ} {r n : ℕ} {a : Result code.Claim Refusal} → TriesClaim g counts w r n w' a → ClaimFor w w' r n a
     claim_shown (later_claim h d c) zero H s inputs shown room live pos many can = absurd (let z = can.pre.enough in omega arith)
     claim_shown (refused_inside b t) zero H s inputs shown room live pos many can = absurd (let z = can.pre.enough in omega arith)
     claim_shown (first_claim b t c) zero H s inputs shown room live pos many can = absurd (let z = can.pre.enough in omega arith)
@@ -581,7 +579,7 @@ module _ (g : Graph) (valid : Valid g) (parts : ShownParts g valid) (counts : Li
         live many (kind_some r (st.regions r in_graph) old) pos after in
         claim_before v (λ x. absurd (not_occupied w r z x)) (omega arith) (begun_now g fuel r n inputs s fresh p) result
 
-    pub region_shown : {w w' : List ℕ} {r : ℕ} {a : Verdict} → StructurizesRegion g counts w r w' a → (fuel : ℕ) (H : ℕ → ℕ) (s : NestState)
+    pub region_shown : {w w' : List ℕ} {r : ℕ} {a : Result ⊤ Refusal} → StructurizesRegion g counts w r w' a → (fuel : ℕ) (H : ℕ → ℕ) (s : NestState)
         → ShowsState g w s → cells_in_all g w ≤ most_cells_in_all → NotBegun w r → CanBegin g valid fuel H r s
         → RegionShows g w w' (structurize_region g (defined fuel) r s) a
     region_shown (refused_at_targets {y = why} t) fuel H s shown room new can =
@@ -614,7 +612,7 @@ module _ (g : Graph) (valid : Valid g) (parts : ShownParts g valid) (counts : Li
         rw e (shows_ready {s' = with_state s₃ r (ready (count_to r z.deferred_edges) z.children z.deferred_edges)}
         (rw (p, q, f)) last preserves_occupied (omega arith))
 
-    turns_from : {w w₂ w₃ : List ℕ} {r : ℕ} {a : Verdict} → ResolvesAll g counts w₂ r w₃ a → (fuel : ℕ) (H : ℕ → ℕ) (s : NestState)
+    turns_from : {w w₂ w₃ : List ℕ} {r : ℕ} {a : Result ⊤ Refusal} → ResolvesAll g counts w₂ r w₃ a → (fuel : ℕ) (H : ℕ → ℕ) (s : NestState)
         → ShowsState g w s → cells_in_all g w ≤ most_cells_in_all → NotBegun w r → (can : CanBegin g valid fuel H r s)
         → (cs : List MaybeClaimedRegion)
         (s₁ : NestState) → target_regions g (defined fuel) (its_edges r) (with_state s r in_progress) ≡ done cs s₁
@@ -628,9 +626,9 @@ module _ (g : Graph) (valid : Valid g) (parts : ShownParts g valid) (counts : Li
         turns_shown t fuel s H y s₂ st (omega arith) can.in_graph (both.kinds_stay r (inl busy) ∙ busy) body
         (can_turn g valid fuel H r s can cs s₁ p y s₂ q)
 
-    pub targets_shown : {w w' : List ℕ} {r j : ℕ} {a : Verdict} → TargetRegions g counts w r j w' a → TargetsFor w w' r j a
+    pub targets_shown : {w w' : List ℕ} {r j : ℕ} {a : Result ⊤ Refusal} → TargetRegions g counts w r j w' a → TargetsFor w w' r j a
     targets_shown {w} {w'} {r} {j} (no_target h e) fuel H s shown room in_graph busy live fit can =
-        subst (λ l. TargetsShow g w w' r j l (target_regions g (defined fuel) l s) step.Right)
+        subst (λ l. TargetsShow g w w' r j l (target_regions g (defined fuel) l s) (Ok tt))
         (sym (drop_of_length-le (its_edges r) {i = j} h))
         (rw e (targets_over g valid fuel r j s shown))
     targets_shown {w} {w'} {r} {j} {a} (target_refused {y = why} h c) fuel H s shown room in_graph busy live fit can =
@@ -706,7 +704,7 @@ module _ (g : Graph) (valid : Valid g) (parts : ShownParts g valid) (counts : Li
         if_refused (bundle_claim r i (λ f h z v a b l n m x. claim_shown c f h z v a b l n m x) fuel H s d shown room own l can there) λ
         f. scan_refusal g valid fuel d i l s there.is f
 
-    pub turns_shown : {w w' : List ℕ} {r n : ℕ} {a : Verdict} → Resolves g counts w r n w' a → (fuel : ℕ) (s₀ : NestState) (H : ℕ → ℕ)
+    pub turns_shown : {w w' : List ℕ} {r n : ℕ} {a : Result ⊤ Refusal} → Resolves g counts w r n w' a → (fuel : ℕ) (s₀ : NestState) (H : ℕ → ℕ)
         (x : Body)
         (s : NestState) → ShowsState g w s → cells_in_all g w ≤ most_cells_in_all → r < length g.regions
         → region_kind w r ≡ kind_in_progress → ShowsBody g w r x

@@ -35,9 +35,11 @@ use Rattle.state_shown.specs.laws.FrontKept.{front_then, stands_on}
 use Rattle.state_shown.specs.States.{ShowsBody, ShowsOwnSet}
 use Rattle.cfg_start.specs.InitialState.{started}
 use Rattle.cfg_start.specs.laws.shown.Started.{started_front, initial_state_shown}
+use Rattle.std.specs.Prelude.{Ok, Result}
 use Rattle.cfg_regions.specs.declared.claim.Claim as claim
-use Rattle.cfg.specs.declared.func.Nested as code
-use Rattle.cfg.specs.declared.func.Nested.TheVariants.{Whole, Leftover}
+use Rattle.cfg.specs.declared.func.Outcome as code
+use Rattle.cfg.specs.declared.func.Outcome.TheVariants.{Whole, Leftover}
+use Rattle.store.specs.declared.refusals.Refusal.{Refusal}
 use Rattle.cfg_claims.specs.Claims.{TriesClaim}
 use Rattle.cfg.specs.Func.{FuncBy, Func, Outcomes}
 use Rattle.cfg.specs.Func as func
@@ -95,7 +97,7 @@ module _ {g : Graph} (few : length g.regions ≤ 32) where
   elsewhere (to_region q) (shows_region p l) d = refl
   elsewhere to_return (shows_return p) d = absurd (d p)
 
-  outcome_shown : {w : List ℕ} {r : ℕ} {a : code.Nested} (d : DeferredEdgeBundleSet) → ShowsOwnSet g w r d → Outcomes w r a
+  outcome_shown : {w : List ℕ} {r : ℕ} {a : code.Outcome} (d : DeferredEdgeBundleSet) → ShowsOwnSet g w r d → Outcomes w r a
       → a ≡ outcome_code (outcome_of d)
   outcome_shown [] set (func.is_closed n) = refl
   outcome_shown [] set (func.is_whole n t) = absurd (let z = set.size in omega arith)
@@ -152,7 +154,7 @@ module _ (g : Graph) (valid : Valid g) where
 
   module _ {w w' : List ℕ} (stands : Stands w g) (room : used ≤ length w) (counts : List ℕ)
       (right : (r : ℕ) → r < length g.regions → get_or counts r 0 ≡ get_or (incoming_edge_counts g) r 0) where
-    claims : {a : claim.Claim} → TriesClaim g counts (started g w) g.entry 1 w' a
+    claims : {a : Result claim.Claim Refusal} → TriesClaim g counts (started g w) g.entry 1 w' a
         → ClaimShows g (started g w) w' g.entry stand_ins entry_claim a
     claims t =
         let first = initial_state_shown valid stands room refl in
@@ -162,10 +164,10 @@ module _ (g : Graph) (valid : Valid g) where
         claim_shown g valid (parts g valid) counts right t (suc (length g.regions)) (λ q. 0) (initial_state g) stand_ins first.state
         (omega arith) (entry_reachable g) (omega arith) (length-map (region g g.entry).inputs (λ t. undef 0)) can_start
 
-    kept : {r n : ℕ} {a : claim.Claim} → TriesClaim g counts (started g w) r n w' a → SameFront w w'
+    kept : {r n : ℕ} {a : Result claim.Claim Refusal} → TriesClaim g counts (started g w) r n w' a → SameFront w w'
     kept t = let f = started_front g w room in front_then f (steady_claim t (stands_on f stands)).front
 
-    by : {a : code.Nested} → FuncBy g counts (started g w) w' a → ShowsNested g w w' (structurize_func g) a
+    by : {a : Result code.Outcome Refusal} → FuncBy g counts (started g w) w' a → ShowsNested g w w' (structurize_func g) a
     unfolding conclude
     by (func.untouched n e) =
         let other : get_or (incoming_edge_counts g) g.entry 0 ≡ 1 → ⊥ = λ z. n (right g.entry valid.entry ∙ z) in
@@ -185,6 +187,6 @@ module _ (g : Graph) (valid : Valid g) where
     by (func.concluded one t func.refused) = if_refused (claims t) λ p.
         shows_refused (kept t) (concludes (sym (right g.entry valid.entry) ∙ one) p)
 
-  pub structurize_func_shown : {w w' : List ℕ} {a : code.Nested} → Stands w g → used ≤ length w → Func g w w' a
+  pub structurize_func_shown : {w w' : List ℕ} {a : Result code.Outcome Refusal} → Stands w g → used ≤ length w → Func g w w' a
       → ShowsNested g w w' (structurize_func g) a
   structurize_func_shown stands room f = by stands room f.counts f.right f.steps

@@ -22,9 +22,8 @@ use Rattle.state_words.specs.laws.Apart.{section_other}
 use Rattle.state_regions.specs.RegionTables.{target_answer}
 use Rattle.state_words.specs.Totals.{Defines, defined}
 use Rattle.state_words.specs.Values.{value_word}
-use Rattle.state_words.specs.declared.defined.Defined.TheVariants.{Number}
-use Rattle.state_words.specs.declared.defined.Made.{Made}
-use Rattle.state_words.specs.declared.defined.Made.TheVariants.{Done}
+use Rattle.std.specs.Prelude.{Ok}
+use Rattle.state_words.specs.Totals.{Made, Done}
 use Rattle.state_shown.specs.Front.{SameKinds}
 use Rattle.state_shown.specs.laws.Stores.{ChangesOnly, head_changes}
 use Rattle.state_shown.specs.laws.Steps.{node_defined}
@@ -75,7 +74,7 @@ node_states s {n} {s₁} e = go (ltb s.node_count most_nodes) e
     go true p = let z : add_node s ≡ s₁ = cc in rw (← z)
     go false p = absurd (clash (cc))
 
-node_changes : {w w₁ : List ℕ} {n : ℕ} → Defines 1 most_nodes w w₁ (Number n) → ChangesOnly head nodes_at w w₁
+node_changes : {w w₁ : List ℕ} {n : ℕ} → Defines 1 most_nodes w w₁ (Ok n) → ChangesOnly head nodes_at w w₁
 node_changes {w} (defined {n} p h e) = rw e (head_changes head nodes_at w (n + 1))
 
 -- The cases filled: nothing but sets and the cases.

@@ -9,7 +9,7 @@ use Rattle.nesting.specs.Nesting.{NestState, Body, SplitOut, ClaimedRegion, ok, 
 use Rattle.follows.specs.simulation.Invariant.{Inv}
 use Rattle.follows.specs.counting.Totals.{edges_to, totals, edgeless}
 use Rattle.state_words.specs.Sections.{word, kinds, children, set_starts}
-use Rattle.state_words.specs.declared.defined.Made.{Made}
+use Rattle.state_words.specs.Totals.{Made}
 use Rattle.state_shown.specs.Tables.{ShowsCondition, shape_bool}
 use Rattle.state_shown.specs.Cells.{ShowsChildren}
 use Rattle.state_shown.specs.Sets.{no_bundle}

@@ -7,7 +7,7 @@ use Rattle.nesting.specs.Nesting.{DeferredTarget, to_region, to_return, Deferred
 use Rattle.nesting.specs.Nesting.{NestState, StepAnswer, Body, same_target}
 use Rattle.follows.specs.counting.Totals.{edge_total, edges_to, totals, edgeless}
 use Rattle.state_words.specs.Sections.{word, head}
-use Rattle.state_words.specs.declared.defined.Made.{Made}
+use Rattle.state_words.specs.Totals.{Made}
 use Rattle.state_shown.specs.Front.{SameKinds}
 use Rattle.state_shown.specs.Kept.{PreservesMade, KeptRegion}
 use Rattle.state_shown.specs.laws.RegionsKept.{preserves_then, kept_then}

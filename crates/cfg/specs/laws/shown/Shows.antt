@@ -22,16 +22,14 @@ use Rattle.state_shown.specs.laws.Stores.{part_length}
 use Rattle.state_regions.specs.RegionTables.{target_answer}
 use Rattle.state_shown.specs.Sets.{no_bundle}
 use Rattle.state_shown.specs.States.{ShowsState, ShowsBody, ShowsClaimed, no_case}
-use Rattle.state_words.specs.declared.defined.Made.{Made}
-use Rattle.state_words.specs.declared.defined.Made.TheVariants as made
-use Rattle.store.specs.declared.Verdict.{Verdict}
-use Rattle.store.specs.declared.Verdict.TheVariants as step
+use Rattle.state_words.specs.Totals.{Made, Done, Full}
+use Rattle.std.specs.Prelude.{Err, Ok, Result, ⊤}
+use Rattle.cfg_regions.specs.declared.claim.Claim.{Claim}
+use Rattle.cfg_regions.specs.declared.claim.Claim.TheVariants.{Claimed, Unclaimed}
 use Rattle.cfg_claims.specs.SplitOut as split
 use Rattle.state_shown.specs.laws.RegionSteps.{Concerns}
 use Rattle.state_shown.specs.Kept.{PreservesMade, KeptRegion}
 use Rattle.state_shown.specs.laws.RegionsKept.{preserves_same, preserves_then, kept_same, kept_then}
-use Rattle.cfg_regions.specs.declared.claim.Claim.{Claim}
-use Rattle.cfg_regions.specs.declared.claim.Claim.TheVariants.{Claimed, Unclaimed, Refused}
 use Rattle.state_words.specs.Rows.{cells_at, kind_claimed, kind_in_progress, kind_not_begun, level_claimed, level_deferred}
 use Rattle.state_words.specs.Rows.{level_unreachable}
 use Rattle.state_words.specs.Rows.{region_kind}
@@ -181,14 +179,14 @@ abbrev pub turned_as : {A : Type 0} → Refusal → StepAnswer A
 turned_as y = turned_away (refusal_number y) (refusal_word y)
 
 -- ---- Answers shown. b is what the definition answers.
-pub data ClaimShows (g : Graph) (w w' : List ℕ) (r : ℕ) (inputs : List Value) (b : StepAnswer (Option ClaimedRegion)) : Claim → Type 0 where
+pub data ClaimShows (g : Graph) (w w' : List ℕ) (r : ℕ) (inputs : List Value) (b : StepAnswer (Option ClaimedRegion)) : Result Claim Refusal → Type 0 where
   shows_claimed : {c : ClaimedRegion} {s' : NestState} → b ≡ done (some c) s' → ShowsState g w' s' → ShowsClaimed g w' c → c.origin ≡ r
       → c.structured_body_inputs ≡ inputs → (Occupied w r → ⊥) → PreservesOccupied g w w' → cells_in_all g w' + 4 ≤ cells_in_all g w
-      → ClaimShows g w w' r inputs b Claimed
+      → ClaimShows g w w' r inputs b (Ok Claimed)
   shows_unclaimed : {s' : NestState} → b ≡ done none s' → ShowsState g w' s' → PreservesOccupied g w w'
       → cells_in_all g w' ≤ cells_in_all g w
-      → ClaimShows g w w' r inputs b Unclaimed
-  shows_refused : {y : Refusal} → b ≡ turned_as y → ClaimShows g w w' r inputs b (Refused y)
+      → ClaimShows g w w' r inputs b (Ok Unclaimed)
+  shows_refused : {y : Refusal} → b ≡ turned_as y → ClaimShows g w w' r inputs b (Err y)
 
 -- How region r's target at place j was answered, which is that of edge e.
 pub data AnsweredAs (g : Graph) (w : List ℕ) (r j : ℕ) (e : Edge) (m : MaybeClaimedRegion) : Type 0 where
@@ -204,13 +202,13 @@ pub record NewlyClaimed (w : List ℕ) (cs : List MaybeClaimedRegion) : Type 0 w
 
 -- The edges es of region r, from place j on.
 pub data TargetsShow (g : Graph) (w w' : List ℕ) (r j : ℕ) (es : List Edge) (b : StepAnswer (List MaybeClaimedRegion)) :
-    Verdict → Type 0 where
+    Result ⊤ Refusal → Type 0 where
   shows_targets : {cs : List MaybeClaimedRegion} {s' : NestState} → b ≡ done cs s' → ShowsState g w' s' → length cs ≡ length es
       → ((k : ℕ) → k < length es → AnsweredAs g w' r (j + k) (get_or es k no_edge) (get_or cs k no_case)) → NewlyClaimed w cs
       → PreservesOthers g r w w'
       → ((k : ℕ) → k < j → target_answer w' r k ≡ target_answer w r k) → cells_in_all g w' ≤ cells_in_all g w
-      → TargetsShow g w w' r j es b step.Right
-  refuses_targets : {y : Refusal} → b ≡ turned_as y → TargetsShow g w w' r j es b (step.Refused y)
+      → TargetsShow g w w' r j es b (Ok tt)
+  refuses_targets : {y : Refusal} → b ≡ turned_as y → TargetsShow g w w' r j es b (Err y)
 
 -- A step of region r's own that takes the claimed regions of these cases: what other regions have stays.
 pub record PreservesOthersBut (g : Graph) (r : ℕ) (cs : List MaybeClaimedRegion) (w w' : List ℕ) : Type 0 where
@@ -233,8 +231,8 @@ others_but {w} a b free =
 
 pub data BodyShows (g : Graph) (w w' : List ℕ) (r : ℕ) (cs : List MaybeClaimedRegion) (more : ℕ) (b : StepAnswer Body) : Made → Type 0 where
   shows_body : {x : Body} {s' : NestState} → b ≡ done x s' → ShowsState g w' s' → ShowsBody g w' r x → PreservesOthersBut g r cs w w'
-      → cells_in_all g w' ≤ cells_in_all g w + more → BodyShows g w w' r cs more b made.Done
-  refuses_body : b ≡ turned_away too_many 0 → BodyShows g w w' r cs more b made.Full
+      → cells_in_all g w' ≤ cells_in_all g w + more → BodyShows g w w' r cs more b Done
+  refuses_body : b ≡ turned_away too_many 0 → BodyShows g w w' r cs more b Full
 
 -- A scan of the set d.
 pub data ScanShows (g : Graph) (w w' : List ℕ) (d : DeferredEdgeBundleSet) (b : StepAnswer (Option SplitOut)) : split.SplitOut → Type 0
@@ -251,34 +249,34 @@ pub data ScanShows (g : Graph) (w w' : List ℕ) (d : DeferredEdgeBundleSet) (b 
     refuses_scan : {y : Refusal} → b ≡ turned_as y → ScanShows g w w' d b (split.Refused y)
 
 -- Turns over region r's set; and the region as a whole.
-pub data TurnsShow (g : Graph) (w w' : List ℕ) (r : ℕ) (b : StepAnswer Body) : Verdict → Type 0 where
+pub data TurnsShow (g : Graph) (w w' : List ℕ) (r : ℕ) (b : StepAnswer Body) : Result ⊤ Refusal → Type 0 where
   shows_turns : {x : Body} {s' : NestState} → b ≡ done x s' → ShowsState g w' s' → ShowsBody g w' r x → PreservesOthers g r w w'
-      → cells_in_all g w' ≤ cells_in_all g w → TurnsShow g w w' r b step.Right
-  refuses_turns : {y : Refusal} → b ≡ turned_as y → TurnsShow g w w' r b (step.Refused y)
+      → cells_in_all g w' ≤ cells_in_all g w → TurnsShow g w w' r b (Ok tt)
+  refuses_turns : {y : Refusal} → b ≡ turned_as y → TurnsShow g w w' r b (Err y)
 
-pub data RegionShows (g : Graph) (w w' : List ℕ) (b : StepAnswer Unit) : Verdict → Type 0 where
+pub data RegionShows (g : Graph) (w w' : List ℕ) (b : StepAnswer Unit) : Result ⊤ Refusal → Type 0 where
   shows_ready : {s' : NestState} → b ≡ done tt s' → ShowsState g w' s' → PreservesOccupied g w w' → cells_in_all g w' ≤ cells_in_all g w
-      → RegionShows g w w' b step.Right
-  refuses_region : {y : Refusal} → b ≡ turned_as y → RegionShows g w w' b (step.Refused y)
+      → RegionShows g w w' b (Ok tt)
+  refuses_region : {y : Refusal} → b ≡ turned_as y → RegionShows g w w' b (Err y)
 
 -- ---- Each taken apart by what the code answered.
 module _ {g : Graph} {w w' : List ℕ} {R : Type 0} where
-  pub if_claimed : {r : ℕ} {inputs : List Value} {b : StepAnswer (Option ClaimedRegion)} → ClaimShows g w w' r inputs b Claimed
+  pub if_claimed : {r : ℕ} {inputs : List Value} {b : StepAnswer (Option ClaimedRegion)} → ClaimShows g w w' r inputs b (Ok Claimed)
       → ((c : ClaimedRegion) (s' : NestState) → b ≡ done (some c) s' → ShowsState g w' s' → ShowsClaimed g w' c → c.origin ≡ r
       → c.structured_body_inputs ≡ inputs → (Occupied w r → ⊥) → PreservesOccupied g w w' → cells_in_all g w' + 4 ≤ cells_in_all g w
       → R) → R
   if_claimed (shows_claimed {c} {s'} p st cl o i f u k) go = go c s' p st cl o i f u k
 
-  pub if_unclaimed : {r : ℕ} {inputs : List Value} {b : StepAnswer (Option ClaimedRegion)} → ClaimShows g w w' r inputs b Unclaimed
+  pub if_unclaimed : {r : ℕ} {inputs : List Value} {b : StepAnswer (Option ClaimedRegion)} → ClaimShows g w w' r inputs b (Ok Unclaimed)
       → ((s' : NestState) → b ≡ done none s' → ShowsState g w' s' → PreservesOccupied g w w' → cells_in_all g w' ≤ cells_in_all g w → R) → R
   if_unclaimed (shows_unclaimed {s'} p st u k) go = go s' p st u k
 
   pub if_refused : {r : ℕ} {y : Refusal} {inputs : List Value} {b : StepAnswer (Option ClaimedRegion)}
-      → ClaimShows g w w' r inputs b (Refused y)
+      → ClaimShows g w w' r inputs b (Err y)
       → (b ≡ turned_as y → R) → R
   if_refused (shows_refused p) go = go p
 
-  pub if_targets : {r j : ℕ} {es : List Edge} {b : StepAnswer (List MaybeClaimedRegion)} → TargetsShow g w w' r j es b step.Right
+  pub if_targets : {r j : ℕ} {es : List Edge} {b : StepAnswer (List MaybeClaimedRegion)} → TargetsShow g w w' r j es b (Ok tt)
       → ((cs : List MaybeClaimedRegion) (s' : NestState) → b ≡ done cs s' → ShowsState g w' s' → length cs ≡ length es
       → ((k : ℕ) → k < length es → AnsweredAs g w' r (j + k) (get_or es k no_edge) (get_or cs k no_case)) → NewlyClaimed w cs
       → PreservesOthers g r w w'
@@ -286,15 +284,15 @@ module _ {g : Graph} {w w' : List ℕ} {R : Type 0} where
   if_targets (shows_targets {cs} {s'} p st n each new ar same k) go = go cs s' p st n each new ar k
 
   pub if_targets_refused : {r j : ℕ} {y : Refusal} {es : List Edge} {b : StepAnswer (List MaybeClaimedRegion)}
-      → TargetsShow g w w' r j es b (step.Refused y) → (b ≡ turned_as y → R) → R
+      → TargetsShow g w w' r j es b (Err y) → (b ≡ turned_as y → R) → R
   if_targets_refused (refuses_targets p) go = go p
 
-  pub if_body : {r : ℕ} {cs : List MaybeClaimedRegion} {more : ℕ} {b : StepAnswer Body} → BodyShows g w w' r cs more b made.Done
+  pub if_body : {r : ℕ} {cs : List MaybeClaimedRegion} {more : ℕ} {b : StepAnswer Body} → BodyShows g w w' r cs more b Done
       → ((x : Body) (s' : NestState) → b ≡ done x s' → ShowsState g w' s' → ShowsBody g w' r x → PreservesOthersBut g r cs w w'
       → cells_in_all g w' ≤ cells_in_all g w + more → R) → R
   if_body (shows_body {x} {s'} p st b ar k) go = go x s' p st b ar k
 
-  pub if_full : {r : ℕ} {cs : List MaybeClaimedRegion} {more : ℕ} {b : StepAnswer Body} → BodyShows g w w' r cs more b made.Full
+  pub if_full : {r : ℕ} {cs : List MaybeClaimedRegion} {more : ℕ} {b : StepAnswer Body} → BodyShows g w w' r cs more b Full
       → (b ≡ turned_away too_many 0 → R) → R
   if_full (refuses_body p) go = go p
 
@@ -305,14 +303,14 @@ module _ {g : Graph} {w w' : List ℕ} {R : Type 0} where
       → PreservesOccupied g w w' → cells_in_all g w' + 4 ≤ cells_in_all g w → R) → R
   if_split (shows_split {t} {y} {s'} p st l z o to cl origin many free u k) go = go t y s' p st l z o to cl origin many free u k
 
-  pub if_turns : {r : ℕ} {b : StepAnswer Body} → TurnsShow g w w' r b step.Right
+  pub if_turns : {r : ℕ} {b : StepAnswer Body} → TurnsShow g w w' r b (Ok tt)
       → ((x : Body) (s' : NestState) → b ≡ done x s' → ShowsState g w' s' → ShowsBody g w' r x → PreservesOthers g r w w'
       → cells_in_all g w' ≤ cells_in_all g w → R) → R
   if_turns (shows_turns {x} {s'} p st b ar k) go = go x s' p st b ar k
 
-  pub if_turns_refused : {r : ℕ} {y : Refusal} {b : StepAnswer Body} → TurnsShow g w w' r b (step.Refused y) → (b ≡ turned_as y → R) → R
+  pub if_turns_refused : {r : ℕ} {y : Refusal} {b : StepAnswer Body} → TurnsShow g w w' r b (Err y) → (b ≡ turned_as y → R) → R
   if_turns_refused (refuses_turns p) go = go p
 
-  pub if_ready : {b : StepAnswer Unit} → RegionShows g w w' b step.Right
+  pub if_ready : {b : StepAnswer Unit} → RegionShows g w w' b (Ok tt)
       → ((s' : NestState) → b ≡ done tt s' → ShowsState g w' s' → PreservesOccupied g w w' → cells_in_all g w' ≤ cells_in_all g w → R) → R
   if_ready (shows_ready {s'} p st u k) go = go s' p st u k

@@ -15,7 +15,7 @@ use Rattle.nesting.specs.steps.RegionsLeft.{state_of, with_state}
 use Rattle.follows.specs.counting.Totals.{edge_total, edges_to, edgeless}
 use Rattle.follows.specs.counting.Counting.{Fine, busy, edges_waiting, edges_waiting_by, edges_waiting_at}
 use Rattle.follows.proofs.counting.CountClaim.{edges_self}
-use Rattle.state_words.specs.declared.defined.Made.{Made}
+use Rattle.state_words.specs.Totals.{Made}
 use Rattle.state_words.specs.Sections.{word, stored, kinds, bodies, backedges, children, set_starts, head, used}
 use Rattle.state_words.specs.laws.Apart.{section_other, stored_length}
 use Rattle.state_shown.specs.Sets.{shows_region, no_bundle}
@@ -30,8 +30,10 @@ use Rattle.state_shown.specs.laws.Stores.{word_there}
 use Rattle.state_shown.specs.laws.RegionSteps.{word_concerns, Concerns, concerns_states, state_stays, kind_set}
 use Rattle.cfg_loops.specs.laws.shown.ClaimedLoops.{ClaimedLoop, ShowsLoop, shows_loop, loop_refused, structurize_loop_shown}
 use Rattle.cfg_loops.specs.Loops.{StructurizesLoop}
+use Rattle.std.specs.Prelude.{Ok, Result}
 use Rattle.cfg_regions.specs.declared.claim.Claim as code
 use Rattle.cfg_regions.specs.declared.claim.Claim.TheVariants.{Claimed}
+use Rattle.store.specs.declared.refusals.Refusal.{Refusal}
 use Rattle.cfg_regions.specs.laws.Leaves.{loops_kinds}
 use Rattle.cfg_regions.specs.ByState.{ClaimsBody, no_backedges, none_found as none_leads_back, by_loop, ClaimsByState, ready_claimed}
 use Rattle.cfg_regions.specs.ByState.{ready_waits}
@@ -172,7 +174,7 @@ module _ (g : Graph) (valid : Valid g) (few : length g.regions ≤ 32) (bound : 
       abbrev now_claimed : NestState
       now_claimed = with_state s r claimed
 
-      as_region : ClaimShows g w (as_claimed w r) r inputs (done (some (claimed_as r r inputs ks d)) now_claimed) Claimed
+      as_region : ClaimShows g w (as_claimed w r) r inputs (done (some (claimed_as r r inputs ks d)) now_claimed) (Ok Claimed)
       as_region =
           let c = claimed_cells shown few r in_graph is nodes set in
           let b = claimed_beside shown few r in_graph is nodes set in
@@ -248,7 +250,7 @@ module _ (g : Graph) (valid : Valid g) (few : length g.regions ≤ 32) (bound : 
           by (shows_loop st same cl o i) u k = shows_claimed refl st cl o i (free_before shown few r in_graph is nodes set) u k
           by loop_refused u k = shows_refused refl
 
-      body_shown : {w' : List ℕ} {a : code.Claim} → ClaimsBody g w r w' a
+      body_shown : {w' : List ℕ} {a : Result code.Claim Refusal} → ClaimsBody g w r w' a
           → ClaimShows g w w' r inputs (claim_body g r inputs ks d (backedge_of r b d) now_claimed) a
       body_shown (no_backedges e s) = rw (s, ap (λ k. backedge_of r k d) (sym same_backedges ∙ e)) as_region
       body_shown (none_leads_back h e s) = rw (s, some_edges h, nowhere leads_back e) as_region
@@ -262,7 +264,7 @@ module _ (g : Graph) (valid : Valid g) (few : length g.regions ≤ 32) (bound : 
               let most = z.room in absurd (omega arith)
       body_shown (by_loop h f x e) = rw e (loop_from x h f leads_back)
 
-    pub state_shown : {w' : List ℕ} {a : code.Claim} → ClaimsByState g w r n (get_or (incoming_edge_counts g) r 0) w' a
+    pub state_shown : {w' : List ℕ} {a : Result code.Claim Refusal} → ClaimsByState g w r n (get_or (incoming_edge_counts g) r 0) w' a
         → (region_kind w r ≡ kind_not_begun → ⊥) → 1 ≤ n
         → ClaimShows g w w' r inputs (claim_by_state g r n inputs (get_or (incoming_edge_counts g) r 0) (state_of s r) s) a
     state_shown {w'} {a} step begun pos = go (state_of s r) refl (shown.regions r in_graph) a w' step
@@ -288,7 +290,7 @@ module _ (g : Graph) (valid : Valid g) (few : length g.regions ≤ 32) (bound : 
         m : ℕ
         m = get_or (incoming_edge_counts g) r 0
 
-        go : (x : StructurizeRegionState) → state_of s r ≡ x → ShowsRegion g w r x → (a : code.Claim) (w' : List ℕ)
+        go : (x : StructurizeRegionState) → state_of s r ≡ x → ShowsRegion g w r x → (a : Result code.Claim Refusal) (w' : List ℕ)
             → ClaimsByState g w r n m w' a → ClaimShows g w w' r inputs (claim_by_state g r n inputs m x s) a
         go not_begun p (is_not_begun e) a w' y = absurd (begun e)
         go in_progress p (is_in_progress e) a w' (ready_claimed f q b) = absurd (omega arith)

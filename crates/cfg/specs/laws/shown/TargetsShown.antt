@@ -27,7 +27,8 @@ use Rattle.state_shown.specs.States.{no_case}
 use Rattle.state_shown.specs.laws.RegionsKept.{claimed_stays}
 use Rattle.state_shown.specs.laws.Stores.{word_there, word_apart}
 use Rattle.state_shown.specs.laws.RegionSteps.{Concerns, target_answer_concerns}
-use Rattle.store.specs.declared.Verdict.{Verdict}
+use Rattle.std.specs.Prelude.{Result, ⊤}
+use Rattle.store.specs.declared.refusals.Refusal.{Refusal}
 use Rattle.cfg.specs.laws.shown.Shows.{AnsweredAs, CanClaim, K, NewlyClaimed, Occupied, PreservesOthers, TargetsShow, cells_in_all}
 use Rattle.cfg.specs.laws.shown.Shows.{concerns_others, others_then, owed_stays, refuses_targets, shows_targets, was_claimed}
 use Rattle.cfg.specs.laws.shown.Shows.{was_deferred, was_nothing, world}
@@ -128,7 +129,7 @@ module _ (g : Graph) (valid : Valid g) (fuel : ℕ) where
     -- The others, put behind the first.
     pub targets_more : {w' : List ℕ} (e : Edge) (es : List Edge) (s s₁ : NestState) → j < 8 → (o : Option ClaimedRegion)
         (c : MaybeClaimedRegion) → claim e.target 1 e.inputs s ≡ done o s₁
-        → edge_case e o s₁ ≡ done c s₁ → AnsweredAs g w₂ r j e c → FirstNew w w₂ c → cells_in_all g w₁ ≤ cells_in_all g w → {a : Verdict}
+        → edge_case e o s₁ ≡ done c s₁ → AnsweredAs g w₂ r j e c → FirstNew w w₂ c → cells_in_all g w₁ ≤ cells_in_all g w → {a : Result ⊤ Refusal}
         → TargetsShow g w₂ w' r (suc j) es (target_regions g claim es s₁) a
         → TargetsShow g w w' r j (e ∷ es) (target_regions g claim (e ∷ es) s) a
     unfolding target_regions

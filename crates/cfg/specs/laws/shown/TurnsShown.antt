@@ -18,9 +18,8 @@ use Rattle.follows.proofs.counting.CountScan.{ScanCounted, BodyCounted, scan_few
 use Rattle.follows.proofs.counting.CountRegion.{claim_counted, turn_counted}
 use Rattle.state_shown.specs.laws.RegionsKept.{body_stays}
 use Rattle.state_shown.specs.States.{ShowsBody}
-use Rattle.state_words.specs.declared.defined.Made.TheVariants as made
-use Rattle.store.specs.declared.Verdict.{Verdict}
-use Rattle.store.specs.declared.Verdict.TheVariants as step
+use Rattle.state_words.specs.Totals.{Full}
+use Rattle.std.specs.Prelude.{Err, Ok, Result, ⊤}
 use Rattle.cfg_claims.specs.SplitOut as split
 use Rattle.cfg.specs.laws.shown.Shows.{BodyShows, K, PreservesOccupied, PreservesOthers, ScanShows, TurnsShow, cells_in_all}
 use Rattle.cfg.specs.laws.shown.Shows.{others_of_occupied, others_then, refuses_body, refuses_scan, refuses_turns, shows_nothing}
@@ -103,7 +102,7 @@ module _ (g : Graph) (valid : Valid g) (fuel : ℕ) where
       (in_graph : r < length g.regions) where
     pub turns_nothing : ShowsBody g w r x → {w' : List ℕ}
         → ScanShows g w w' x.deferred_edges (split_out_matching g claim [] x.deferred_edges s) split.Nothing
-        → TurnsShow g w w' r (turns (suc n) x s) step.Right
+        → TurnsShow g w w' r (turns (suc n) x s) (Ok tt)
     unfolding resolve_deferred
     turns_nothing b (shows_nothing {s'} p st u c) =
         shows_turns {x = x} {s' = s'} (rw p) st (body_stays u.made_stays (u.regions_stay r in_graph (inl busy)) b)
@@ -111,7 +110,7 @@ module _ (g : Graph) (valid : Valid g) (fuel : ℕ) where
 
     pub turns_refuse : {y : Refusal} {w' : List ℕ}
         → ScanShows g w w' x.deferred_edges (split_out_matching g claim [] x.deferred_edges s) (split.Refused y)
-        → TurnsShow g w w' r (turns (suc n) x s) (step.Refused y)
+        → TurnsShow g w w' r (turns (suc n) x s) (Err y)
     unfolding resolve_deferred
     turns_refuse {y} (refuses_scan p) = refuses_turns {y = y} (rw p)
 
@@ -122,13 +121,13 @@ module _ (g : Graph) (valid : Valid g) (fuel : ℕ) where
       selected = structurize_select_into g x.children bool_cond (lazy (condition_in x.deferred_edges y.bundle))
           (ok y.claimed_region ∷ err y.others ∷ []) s₁
 
-      pub turns_full : {w₂ : List ℕ} → BodyShows g w₁ w₂ r (ok y.claimed_region ∷ err y.others ∷ []) 4 selected made.Full
-          → TurnsShow g w w₂ r (turns (suc n) x s) (step.Refused TooMany)
+      pub turns_full : {w₂ : List ℕ} → BodyShows g w₁ w₂ r (ok y.claimed_region ∷ err y.others ∷ []) 4 selected Full
+          → TurnsShow g w w₂ r (turns (suc n) x s) (Err TooMany)
       unfolding resolve_deferred
       turns_full (refuses_body q) = refuses_turns {y = TooMany} (rw (p, q))
 
       pub turns_again : {w₂ w' : List ℕ} (x' : Body) (s₂ : NestState) → selected ≡ done x' s₂ → PreservesOthers g r w w₂
-          → cells_in_all g w₂ ≤ cells_in_all g w₁ + 4 → {a : Verdict} → TurnsShow g w₂ w' r (turns n x' s₂) a
+          → cells_in_all g w₂ ≤ cells_in_all g w₁ + 4 → {a : Result ⊤ Refusal} → TurnsShow g w₂ w' r (turns n x' s₂) a
           → TurnsShow g w w' r (turns (suc n) x s) a
       unfolding resolve_deferred
       turns_again x' s₂ q ar k (shows_turns {x = z} {s'} f st b ar₂ k₂) =

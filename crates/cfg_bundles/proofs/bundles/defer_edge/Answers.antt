@@ -1,5 +1,4 @@
 use Rattle.cfg_bundles.specs.laws.paths.Paths.{edge_by}
-use borrow.Author.Rules.{rules}
 use Rattle.cfg_bundles.proofs.bundles.defer_edge.Goals as goal
 
 pub returns : goal.returns

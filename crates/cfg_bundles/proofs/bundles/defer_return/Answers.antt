@@ -1,5 +1,4 @@
 use Rattle.cfg_bundles.specs.laws.paths.Paths.{return_by}
-use borrow.Author.Rules.{rules}
 use Rattle.cfg_bundles.proofs.bundles.defer_return.Goals as goal
 
 pub returns : goal.returns

@@ -1,6 +1,5 @@
 use mathlib.Core.Path.{◌∙◌}
 use Rattle.cfg_bundles.specs.laws.paths.Paths.{listed_is}
-use borrow.Author.Rules.{rules}
 use Rattle.cfg_bundles.proofs.bundles.passed_inputs.Goals as goal
 
 pub returns : goal.returns

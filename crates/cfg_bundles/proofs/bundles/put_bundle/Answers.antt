@@ -2,7 +2,6 @@ use Rattle.cfg_bundles.specs.laws.paths.Paths.{run_then}
 use mathlib.Core.List.{[], ◌∷◌}
 use Rattle.state_words.specs.Sections.{bundles}
 use Rattle.state_words.specs.Totals.{edges_word}
-use borrow.Author.Rules.{rules}
 use Rattle.cfg_bundles.proofs.bundles.put_bundle.Goals as goal
 
 pub returns : goal.returns

@@ -15,10 +15,14 @@ use Rattle.fields.specs.Shape.{value_is}
 use Rattle.fields.specs.declared.shape.Value.{Value}
 use Rattle.fields.specs.declared.shape.Value.TheVariants.{Const, Input, Instr, Bool as Truth, Undef, Nothing}
 use Rattle.state_regions.specs.declared.cases.Case.{Case}
+use Rattle.state_regions.specs.declared.cases.CaseKind.TheVariants.{NothingDeferred, OwnEdge, ClaimedRegion, Others}
 use Rattle.state_words.specs.Sections.{Section, word, stored, stored_all, stored_all_at, head, children, set_starts, set_lengths, cases}
 use Rattle.state_words.specs.Sections.{bundles}
 use Rattle.state_sets.specs.SetTables.{bundle_at, own_edge, bundle_copied, shift_removed, swapped}
-use Rattle.state_regions.specs.RegionTables.{target_answer, case_words}
+use Rattle.state_regions.specs.RegionTables.{target_answer, target_answer_of, case_words}
+use Rattle.state_regions.specs.laws.KindsBack.{answer_is, answer_not}
+use Rattle.state_regions.specs.declared.regions.TargetAnswer.{TargetAnswer}
+use Rattle.state_regions.specs.declared.regions.TargetAnswer.TheVariants as answers
 use Rattle.state_nodes.specs.NodeTables.{inserted, Joins}
 use Rattle.state_words.specs.Totals.{edges_word}
 use Rattle.state_words.specs.Values.{value_word}
@@ -31,7 +35,7 @@ use Rattle.cfg_bundles.specs.EdgesAndCases.{filled_from, cases_filled, given_wor
 use Rattle.cfg_bundles.specs.EdgesAndCases.{appended}
 use Rattle.cfg_bundles.specs.EdgesAndCases.{its_edge}
 use Rattle.state_words.specs.Values.{undef_from}
-use Rattle.state_words.specs.Rows.{bundle_row_at, bundle_target, case_claimed, case_nothing, case_others, case_own_edge, case_row_at}
+use Rattle.state_words.specs.Rows.{bundle_row_at, bundle_target, case_row_at}
 use Rattle.state_words.specs.Rows.{cases_at}
 use Rattle.state_words.specs.Rows.{condition_true, entry_replace, level_claimed, level_deferred, return_word}
 
@@ -71,10 +75,6 @@ module _ (l : List ℕ) (p n k : ℕ) where
   unfolding listed_word
   listed_beyond h = rw (le-ltb k n h)
 
-pub listed_all : (l : List ℕ) (p : ℕ) {n a b c d : ℕ} → n ≡ get_or l p 0 → a ≡ listed_word l p n 0 → b ≡ listed_word l p n 1
-    → c ≡ listed_word l p n 2 → d ≡ listed_word l p n 3 → (a ∷ b ∷ c ∷ d ∷ []) ≡ listed l p
-listed_all l p size a b c d = rw (a, b, c, d, size)
-
 pub listed_is : (l : List ℕ) (p : ℕ) {vs : List graph.Value} → ValuesAt l p vs → listed l p ≡ padded vs
 unfolding listed_word padded_by
 listed_is l p at = rw (at.count, at.item 0, at.item 1, at.item 2, at.item 3)
@@ -94,36 +94,34 @@ unfolding return_deferred
 return_by g l r a b c none d e = e ∙ rw (d, none, c, b, a)
 
 -- ---- Cases.
-module _ (g : Graph) (l : List ℕ) (r j : ℕ) {answer : ℕ} (read : answer ≡ target_answer l r j) where
-  pub fill_claimed : answer ≡ level_claimed → {t : ℕ} {x : Case} {vs l' : List ℕ} → t ≡ (edge_of g r j).target → x ≡ claimed_case l t
+module _ (g : Graph) (l : List ℕ) (r j : ℕ) {answer : TargetAnswer} (read : answer ≡ target_answer_of (target_answer l r j)) where
+  pub fill_claimed : answer ≡ answers.Claimed → {t : ℕ} {x : Case} {vs l' : List ℕ} → t ≡ (edge_of g r j).target → x ≡ claimed_case l t
       → vs ≡ padded (edge_of g r j).inputs → l' ≡ stored_all l cases (case_row_at j) (case_words x ++ vs) → l' ≡ case_filled g l r j
   unfolding case_filled
-  fill_claimed is a b c e = e ∙ rw (b, a, c, eq-eqb (target_answer l r j) level_claimed (sym read ∙ is))
+  fill_claimed is a b c e = e ∙ rw (b, a, c, eq-eqb (target_answer l r j) level_claimed (answer_is read is))
 
-  pub fill_edge : (answer ≡ level_claimed → ⊥) → answer ≡ level_deferred → {p : ℕ} {x : Case} {l₁ l₂ : List ℕ} → p ≡ own_edge j
+  pub fill_edge : (answer ≡ answers.Claimed → ⊥) → answer ≡ answers.Deferred → {p : ℕ} {x : Case} {l₁ l₂ : List ℕ} → p ≡ own_edge j
       → l₁ ≡ edge_deferred g l p r j
-      → x ≡ unclaimed_case case_own_edge p 1 → l₂ ≡ stored_all l₁ cases (case_row_at j) (case_words x) → l₂ ≡ case_filled g l r j
+      → x ≡ unclaimed_case OwnEdge p 1 → l₂ ≡ stored_all l₁ cases (case_row_at j) (case_words x) → l₂ ≡ case_filled g l r j
   unfolding case_filled
   fill_edge unlike is a b c e =
       e ∙ rw (
         b,
         c,
         a,
-        ne_eqb (target_answer l r j) level_claimed (λ h. unlike (read ∙ h)),
-        eq-eqb (target_answer l r j) level_deferred
-            (sym read ∙ is),
+        ne_eqb (target_answer l r j) level_claimed (answer_not read unlike),
+        eq-eqb (target_answer l r j) level_deferred (answer_is read is),
       )
 
-  pub fill_nothing : (answer ≡ level_claimed → ⊥) → (answer ≡ level_deferred → ⊥) → {x : Case} {l' : List ℕ}
-      → x ≡ unclaimed_case case_nothing 0 0
+  pub fill_nothing : (answer ≡ answers.Claimed → ⊥) → (answer ≡ answers.Deferred → ⊥) → {x : Case} {l' : List ℕ}
+      → x ≡ unclaimed_case NothingDeferred 0 0
       → l' ≡ stored_all l cases (case_row_at j) (case_words x) → l' ≡ case_filled g l r j
   unfolding case_filled
   fill_nothing unlike nor a e =
       e ∙ rw (
         a,
-        ne_eqb (target_answer l r j) level_claimed (λ h. unlike (read ∙ h)),
-        ne_eqb (target_answer l r j) level_deferred
-            (λ h. nor (read ∙ h)),
+        ne_eqb (target_answer l r j) level_claimed (answer_not read unlike),
+        ne_eqb (target_answer l r j) level_deferred (answer_not read nor),
       )
 
 -- What a case leaves: the record stands.
@@ -164,20 +162,15 @@ module _ (g : Graph) (r n j : ℕ) {w whole : List ℕ} where
   unfolding filled_from
   fill_stop h q = let z : n - j ≡ 0 = omega arith in rw z at q
 
-pub given_all : (g : Graph) (l : List ℕ) (p : ℕ) {t n a b c d : ℕ} → t ≡ bundle_target l p → n ≡ length (region g t).inputs
-    → a ≡ given_word l p n 0 → b ≡ given_word l p n 1 → c ≡ given_word l p n 2 → d ≡ given_word l p n 3
-    → (a ∷ b ∷ c ∷ d ∷ []) ≡ given_inputs g l p
-given_all g l p of_target size a b c d = rw (a, b, c, d, size, of_target)
-
 pub split_by : (g : Graph) (l : List ℕ) (r i : ℕ) {start p t n : ℕ} {x y : Case} {vs l₁ l₂ l₃ l₄ : List ℕ} → start ≡ word l set_starts r
     → p ≡ bundle_at start i → t ≡ bundle_target l p → x ≡ claimed_case l t → vs ≡ given_inputs g l p → l₁ ≡ shift_removed l r i
     → n ≡ word l₁ set_lengths r → l₂ ≡ stored l₁ head cases_at 2 → l₃ ≡ stored_all l₂ cases (case_row_at 0) (case_words x ++ vs)
-    → y ≡ unclaimed_case case_others start n → l₄ ≡ stored_all l₃ cases (case_row_at 1) (case_words y) → l₄ ≡ split_filled g l r i
+    → y ≡ unclaimed_case Others start n → l₄ ≡ stored_all l₃ cases (case_row_at 1) (case_words y) → l₄ ≡ split_filled g l r i
 unfolding split_filled
 split_by g l r i a b c d e f h k m o q = q ∙ rw (o, m, k, h, f, e, d, c, b, a)
 
 -- ---- A case that stands alone.
-pub append_claimed : (l : List ℕ) (r : ℕ) (x : Case) (j : ℕ) {vs l₁ l₂ l₃ l₄ l₅ : List ℕ} {before h : ℕ} → x.kind ≡ case_claimed
+pub append_claimed : (l : List ℕ) (r : ℕ) (x : Case) (j : ℕ) {vs l₁ l₂ l₃ l₄ l₅ : List ℕ} {before h : ℕ} → x.kind ≡ ClaimedRegion
     → vs ≡ case_inputs l j
     → l₁ ≡ inserted l x.body entry_replace vs → before ≡ word l₁ children r → Joins l₁ l₂ before x.children.0 h
     → l₃ ≡ stored l₂ children r h
@@ -186,7 +179,7 @@ append_claimed l r x j kind a b c d e f k =
     let start : _ ≡ inserted l x.body entry_replace (case_inputs l j) = b ∙ rw a in
     appended kind (rw (c, start) at d) (k ∙ rw (f, e))
 
-pub append_edge : (l : List ℕ) (r : ℕ) (x : Case) (j : ℕ) {start p : ℕ} {l₁ l₂ : List ℕ} → x.kind ≡ case_own_edge
+pub append_edge : (l : List ℕ) (r : ℕ) (x : Case) (j : ℕ) {start p : ℕ} {l₁ l₂ : List ℕ} → x.kind ≡ OwnEdge
     → start ≡ word l set_starts r
     → p ≡ bundle_at start 0 → l₁ ≡ bundle_copied l p x.start.0 → l₂ ≡ stored l₁ set_lengths r x.length → Appends l l₂ r x j
 append_edge l r x j kind a b c d = its_edge kind (d ∙ rw (c, b, a))

@@ -11,6 +11,10 @@ use Rattle.nesting.specs.Nesting.{region_body, join, done}
 use Rattle.nesting.specs.Nesting.{replace_with, append_maybe_claimed_region}
 use Rattle.nesting.specs.Nesting.{most_regions}
 use Rattle.state_regions.specs.declared.cases.Case.{Case}
+use Rattle.state_regions.specs.declared.cases.CaseKind.{CaseKind}
+use Rattle.state_regions.specs.declared.cases.CaseKind.TheVariants as case_kinds
+use Rattle.state_regions.specs.RegionTables.{case_kind_of, case_kind_word}
+use Rattle.state_regions.specs.laws.KindsBack.{kind_back}
 use Rattle.state_words.specs.Sections.{used, word, stored, head, kinds, set_starts, set_lengths, children, bundles}
 use Rattle.state_sets.specs.SetTables.{bundle_at, bundle_words, bundle_copied, swapped}
 use Rattle.state_regions.specs.RegionTables.{case_row}
@@ -35,23 +39,27 @@ use Rattle.state_shown.specs.laws.SetSteps.{set_moves, swapped_only, swapped_fir
 use Rattle.state_shown.specs.laws.Finds.{bundle_in}
 use Rattle.cfg_bundles.specs.EdgesAndCases.{case_inputs, Appends, appended, its_edge, its_rest}
 use Rattle.cfg_bundles.specs.laws.shown.CaseSteps.{CaseAndSet}
-use Rattle.state_words.specs.Rows.{bundle_row_at, case_claimed, case_input, case_own_edge, case_set_length, case_set_start, cells_at}
+use Rattle.state_words.specs.Rows.{bundle_row_at, case_input, case_set_length, case_set_start, cells_at}
 use Rattle.state_words.specs.Rows.{entry_replace, kind_claimed, kind_ready, most_cells, region_kind, slot_size}
 
 -- ---- A case that is to stand alone, by its parts; its inputs stand in row j.
 pub data ShowsAlone (g : Graph) (w : List ℕ) (r j : ℕ) (x : Case) : MaybeClaimedRegion → Type 0 where
-  claimed_parts : {c : ClaimedRegion} → x.kind ≡ case_claimed → x.origin ≡ c.origin → c.origin < length g.regions
+  claimed_parts : {c : ClaimedRegion} → x.kind ≡ case_kinds.ClaimedRegion → x.origin ≡ c.origin → c.origin < length g.regions
       → (c.origin ≡ r → ⊥)
       → region_kind w c.origin ≡ kind_claimed → x.body ≡ c.structured_body → c.structured_body < most_regions
       → ShowsChildren g w x.children.0 c.children → ShowsSet g w (word w set_starts c.origin) x.length c.deferred_edges
       → ((k : ℕ) → k < 4 → Names (case_input w j k) (get_or c.structured_body_inputs k (undef 0)))
       → ShowsAlone g w r j x (ok c)
-  edge_parts : {d : DeferredEdgeBundleSet} → x.kind ≡ case_own_edge → x.length ≡ 1 → ShowsSet g w x.start.0 1 d
+  edge_parts : {d : DeferredEdgeBundleSet} → x.kind ≡ case_kinds.OwnEdge → x.length ≡ 1 → ShowsSet g w x.start.0 1 d
       → ShowsAlone g w r j x (err d)
   -- Nothing, or what is left of region r's own set.
-  rest_parts : {d : DeferredEdgeBundleSet} → (x.kind ≡ case_claimed → ⊥) → (x.kind ≡ case_own_edge → ⊥)
+  rest_parts : {d : DeferredEdgeBundleSet} → (x.kind ≡ case_kinds.ClaimedRegion → ⊥) → (x.kind ≡ case_kinds.OwnEdge → ⊥)
       → ShowsSet g w (word w set_starts r) x.length d
       → ShowsAlone g w r j x (err d)
+
+-- A word of one kind says no other.
+pub other_kind : {n m : ℕ} {k : CaseKind} → n ≡ m → (m ≡ case_kind_word k → ⊥) → case_kind_of n ≡ k → ⊥
+other_kind {n} e d z = d (sym e ∙ sym (kind_back n) ∙ ap case_kind_word z)
 
 -- Of a case that is shown, the parts are its row.
 pub row_alone : {g : Graph} {w : List ℕ} {r j : ℕ} {m : MaybeClaimedRegion} → Slots (length g.regions) w
@@ -65,11 +73,11 @@ row_alone {g} {w} {r} {j} slots below x claimed = go x.case x.set claimed
         → ((c : ClaimedRegion) → m ≡ ok c → (region_kind w c.origin ≡ kind_claimed) × (c.origin ≡ r → ⊥))
         → ShowsAlone g w r j (case_row w j) m
     go (shows_ok {c} a b in_graph d e f start size names) s claimed =
-        let y = claimed c refl in claimed_parts {c = c} a b in_graph y.1 y.0 d e f (rw start at s) names
+        let y = claimed c refl in claimed_parts {c = c} (ap case_kind_of a) b in_graph y.1 y.0 d e f (rw start at s) names
     go (shows_nothing a b) s claimed =
         let at = slots.starts r below in
         let in_slot = slots.below r below in
-        rest_parts (omega arith) (omega arith)
+        rest_parts (other_kind a (omega arith)) (other_kind a (omega arith))
         record {
           size = b;
           few = omega arith;
@@ -77,8 +85,8 @@ row_alone {g} {w} {r} {j} slots below x claimed = go x.case x.set claimed
           each = λ i h. absurd (omega arith);
           apart = λ i k p q. absurd (omega arith);
         }
-    go (shows_edge a b d) s claimed = edge_parts a d (rw d at s)
-    go (shows_others a b) s claimed = rest_parts (omega arith) (omega arith) (rw b at s)
+    go (shows_edge a b d) s claimed = edge_parts (ap case_kind_of a) d (rw d at s)
+    go (shows_others a b) s claimed = rest_parts (other_kind a (omega arith)) (other_kind a (omega arith)) (rw b at s)
 
 concerns_same : (g : Graph) (r : ℕ) (w : List ℕ) → Concerns g r w w
 concerns_same g r w =
@@ -283,9 +291,11 @@ module _ {g : Graph} (few : length g.regions ≤ 32) {r : ℕ} (here : r < lengt
       → Appends w w' r x j → AppendShown g w w' s parent m r
   append_shown {x} free (claimed_parts a b c d e f h k l n) (appended p joins stores) =
       claimed_appended x free (claimed_parts a b c d e f h k l n) joins stores
-  append_shown free (claimed_parts a b c d e f h k l n) (its_edge p stores) = absurd (omega arith)
+  append_shown free (claimed_parts a b c d e f h k l n) (its_edge p stores) =
+      let z = ap case_kind_word (sym a ∙ p) in absurd (omega arith)
   append_shown free (claimed_parts a b c d e f h k l n) (its_rest p q stores) = absurd (p a)
-  append_shown free (edge_parts a b c) (appended p joins stores) = absurd (omega arith)
+  append_shown free (edge_parts a b c) (appended p joins stores) =
+      let z = ap case_kind_word (sym a ∙ p) in absurd (omega arith)
   append_shown free (edge_parts a b c) (its_edge p stores) = rw (stores, b) (edge_appended few here state unready nodes c)
   append_shown free (edge_parts a b c) (its_rest p q stores) = absurd (q a)
   append_shown free (rest_parts a b c) (appended p joins stores) = absurd (a p)

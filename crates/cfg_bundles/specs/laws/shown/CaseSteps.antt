@@ -3,6 +3,7 @@ use Rattle.std.specs.Prelude.{◌≡◌, refl, List, [], ◌++◌, ℕ, suc, ◌
 use Rattle.std.proofs.Common.{sym, ap, ◌∙◌, arith, lt-ltb}
 use Rattle.meaning.specs.Graph.{Graph, undef}
 use Rattle.nesting.specs.Nesting.{DeferredEdgeBundleSet, ClaimedRegion, MaybeClaimedRegion, ok, err, deferred_of}
+use Rattle.state_regions.specs.declared.cases.CaseKind.TheVariants.{NothingDeferred, OwnEdge, Others}
 use Rattle.state_words.specs.Sections.{used, word, stored_all, head, set_starts, set_lengths, levels, cases}
 use Rattle.state_sets.specs.SetTables.{own_edge}
 use Rattle.state_regions.specs.RegionTables.{target_answer, case_words}
@@ -15,7 +16,7 @@ use Rattle.state_shown.specs.laws.SetStores.{cases_of_sets, run_word, run_beside
 use Rattle.state_shown.specs.laws.SetStores.{run_elsewhere_word, same_elsewhere_run}
 use Rattle.cfg_bundles.specs.EdgesAndCases.{claimed_case, unclaimed_case, edge_deferred}
 use Rattle.cfg_bundles.specs.laws.shown.Deferred.{edge_deferred_only, edge_deferred_beside, edge_deferred_word}
-use Rattle.state_words.specs.Rows.{case_claimed, case_kind, case_nothing, case_origin, case_others, case_own_edge, case_row_at, slot_size}
+use Rattle.state_words.specs.Rows.{case_claimed, case_kind, case_origin, case_others, case_row_at, slot_size}
 use Rattle.state_words.specs.Rows.{case_row_size, case_body_field, case_children_field, case_kind_field, case_origin_field}
 use Rattle.state_words.specs.Rows.{case_set_length, case_set_start, case_word, case_word_at, cases_at, level_at, own_edges_from, spare_slot}
 use Rattle.state_words.specs.Rows.{case_set_length_field, case_set_start_field}
@@ -196,9 +197,9 @@ module _ {g : Graph} (w : List ℕ) (room : used ≤ length w) {r j : ℕ} (belo
       }
 
   -- Nothing is deferred.
-  pub nothing_row : CaseAndSet g (stored_all w cases (case_row_at j) (case_words (unclaimed_case case_nothing 0 0))) r j (err [])
+  pub nothing_row : CaseAndSet g (stored_all w cases (case_row_at j) (case_words (unclaimed_case NothingDeferred 0 0))) r j (err [])
   nothing_row =
-      let xs = case_words (unclaimed_case case_nothing 0 0) in
+      let xs = case_words (unclaimed_case NothingDeferred 0 0) in
       let at : (k : ℕ) → k < 6 → case_word (stored_all w cases (case_row_at j) xs) j k ≡ get_or xs k 0 =
       λ k h. row_word w room j below xs (omega arith) k h in
       record {
@@ -215,9 +216,9 @@ module _ {g : Graph} (w : List ℕ) (room : used ≤ length w) {r j : ℕ} (belo
 
   -- The edge of its own.
   pub edge_row : {d : DeferredEdgeBundleSet} → ShowsSet g w (own_edges_from + j) 1 d
-      → CaseAndSet g (stored_all w cases (case_row_at j) (case_words (unclaimed_case case_own_edge (own_edge j) 1))) r j (err d)
+      → CaseAndSet g (stored_all w cases (case_row_at j) (case_words (unclaimed_case OwnEdge (own_edge j) 1))) r j (err d)
   edge_row x =
-      let xs = case_words (unclaimed_case case_own_edge (own_edge j) 1) in
+      let xs = case_words (unclaimed_case OwnEdge (own_edge j) 1) in
       let own = own_in j below in
       let at : (k : ℕ) → k < 6 → case_word (stored_all w cases (case_row_at j) xs) j k ≡ get_or xs k 0 =
       λ k h. row_word w room j below xs (omega arith) k h in
@@ -231,9 +232,9 @@ module _ {g : Graph} (w : List ℕ) (room : used ≤ length w) {r j : ℕ} (belo
 
   -- What is left of region r's set.
   pub others_row : {d : DeferredEdgeBundleSet} {n : ℕ} → ShowsSet g w (word w set_starts r) n d
-      → CaseAndSet g (stored_all w cases (case_row_at j) (case_words (unclaimed_case case_others (word w set_starts r) n))) r j (err d)
+      → CaseAndSet g (stored_all w cases (case_row_at j) (case_words (unclaimed_case Others (word w set_starts r) n))) r j (err d)
   others_row {n} x =
-      let xs = case_words (unclaimed_case case_others (word w set_starts r) n) in
+      let xs = case_words (unclaimed_case Others (word w set_starts r) n) in
       let at : (k : ℕ) → k < 6 → case_word (stored_all w cases (case_row_at j) xs) j k ≡ get_or xs k 0 =
       λ k h. row_word w room j below xs (omega arith) k h in
       record {

@@ -1,22 +1,13 @@
-use Prim.Native.Nat.{◌-◌, ◌≤◌}
-use mathlib.Core.Path.{◌≡◌}
-use native.Mathlib.Omega.{arith}
-use borrow.Author.Rules.{rules}
-use Rattle.cfg_bundles.specs.laws.paths.Paths.{fill_start, fill_turn, fill_stop, fill_end, stands_counted}
-use Rattle.record.specs.Stands.{Stands, OfRecord}
-use Rattle.cfg_bundles.specs.EdgesAndCases.{filled_from}
+use Rattle.cfg_bundles.specs.laws.paths.Paths.{fill_turn, fill_stop, fill_end, stands_counted}
 use Rattle.cfg_cases.proofs.cases.fill_cases.Goals as goal
 
 pub loop-j-preserved : goal.loop-j-preserved
-loop-j-preserved c = (
-  omega arith,
-  λ g s.
-      let before = c.loop-j.invariant.1 g s in
-      fill_turn g _ _ _ c.loop-j-test.true before (c.fill_case.ensures g before.0),
-)
+loop-j-preserved c g s =
+    let before = c.loop-j.invariant g s in
+    fill_turn g _ _ _ c.loop-j-test.true before (c.fill_case.ensures g before.0)
 
 pub returns : goal.returns
 returns c g s =
     let stands = stands_counted _ s c.set_case_count.ensures in
     fill_end g _ _ (c.target_count-n.ensures g s) c.set_case_count.ensures
-    (fill_stop g _ _ _ c.loop-j-test.false (c.loop-j.invariant.1 g stands).1)
+    (fill_stop g _ _ _ c.loop-j-test.false (c.loop-j.invariant g stands).1)

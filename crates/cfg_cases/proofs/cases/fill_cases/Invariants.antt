@@ -1,14 +1,8 @@
-use Prim.Native.Nat.{◌-◌, ◌≤◌}
+use Prim.Native.Nat.{◌-◌}
 use mathlib.Core.Path.{◌≡◌}
-use native.Mathlib.Omega.{arith}
-use borrow.Author.Rules.{rules}
-use Rattle.cfg_bundles.specs.laws.paths.Paths.{fill_start, fill_turn, fill_stop, fill_end, stands_counted}
 use Rattle.record.specs.Stands.{Stands, OfRecord}
 use Rattle.cfg_bundles.specs.EdgesAndCases.{filled_from}
 use Rattle.cfg_cases.proofs.cases.fill_cases.Given as goal
 
 abbrev pub invariant-loop-j : goal.invariant-loop-j
-invariant-loop-j l = (l.j ≤ l.n) × OfRecord l.initial.w (λ g. Stands l.w g × (filled_from g l.w l.r (l.n - l.j) l.j ≡ filled_from g l.initial.w l.r l.n 0))
-
-abbrev pub decreases-loop-j : goal.decreases-loop-j
-decreases-loop-j l = l.n - l.j
+invariant-loop-j l = OfRecord l.initial.w (λ g. Stands l.w g × (filled_from g l.w l.r (l.n - l.j) l.j ≡ filled_from g l.initial.w l.r l.n 0))

@@ -1,5 +1,4 @@
 use Rattle.cfg_bundles.specs.laws.paths.Paths.{split_by}
-use borrow.Author.Rules.{rules}
 use Rattle.cfg_cases.proofs.cases.fill_claimed_and_others.Goals as goal
 
 pub returns : goal.returns

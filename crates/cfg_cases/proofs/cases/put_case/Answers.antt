@@ -1,7 +1,6 @@
 use Rattle.cfg_bundles.specs.laws.paths.Paths.{run_then}
 use Rattle.state_words.specs.Sections.{cases}
 use Rattle.state_regions.specs.RegionTables.{case_words}
-use borrow.Author.Rules.{rules}
 use Rattle.cfg_cases.proofs.cases.put_case.Goals as goal
 
 pub returns : goal.returns

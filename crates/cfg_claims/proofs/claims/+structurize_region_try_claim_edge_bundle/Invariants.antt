@@ -15,9 +15,6 @@ decreases-try_claim_edge_bundle l = 2 * left l.w.now + 1
 abbrev pub invariant-structurize_region-loop-j : goal.invariant-structurize_region-loop-j
 invariant-structurize_region-loop-j l = TargetsPassed l.counts l.initial.w l.r l.w l.j
 
-abbrev pub decreases-structurize_region-loop-j : goal.decreases-structurize_region-loop-j
-decreases-structurize_region-loop-j l = l.n - l.j
-
 -- The scan of the region's set.
 abbrev pub invariant-structurize_region-loop-i : goal.invariant-structurize_region-loop-i
 invariant-structurize_region-loop-i l = ScanPassed l.again l.initial.w l.r l.m l.w l.i

@@ -14,6 +14,3 @@ use Rattle.cfg_emits.proofs.emit.conditions_in_cases.Given as goal
 abbrev pub invariant-loop-j : goal.invariant-loop-j
 invariant-loop-j l = (l.n ≡ case_total l.w) × (l.n ≤ 8) × (l.j ≤ l.n) × InCases l.j (λ i. per_case_condition l.w i (get_or l.places i 0)) 0
     l.parts
-
-abbrev pub decreases-loop-j : goal.decreases-loop-j
-decreases-loop-j l = l.n - l.j

@@ -9,6 +9,3 @@ use Rattle.cfg_emits.proofs.emit.emit_bundles.Given as goal
 
 abbrev pub invariant-loop-i : goal.invariant-loop-i
 invariant-loop-i l = (l.i ≤ l.n) × GoesOnBy (λ g. EmitAt g l.h.0 l.start.0) l.n l.i l.initial.w l.w
-
-abbrev pub decreases-loop-i : goal.decreases-loop-i
-decreases-loop-i l = l.n - l.i

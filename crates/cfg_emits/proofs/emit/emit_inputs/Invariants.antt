@@ -9,6 +9,3 @@ use Rattle.cfg_emits.proofs.emit.emit_inputs.Given as goal
 
 abbrev pub invariant-loop-k : goal.invariant-loop-k
 invariant-loop-k l = (l.k ≤ l.n) × GoesOnBy (λ g. EmitInput g l.node l.q.0 l.t l.places) l.n l.k l.initial.w l.w
-
-abbrev pub decreases-loop-k : goal.decreases-loop-k
-decreases-loop-k l = l.n - l.k

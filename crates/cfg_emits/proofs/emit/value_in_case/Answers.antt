@@ -6,5 +6,5 @@ use Rattle.cfg_emits.proofs.emit.value_in_case.Goals as goal
 pub returns-then-p-eq-NO_BUNDLE : goal.returns-then-p-eq-NO_BUNDLE
 returns-then-p-eq-NO_BUNDLE c = c.undef.ensures ∙ value_none _ _ _ _ c.if-p-eq-NO_BUNDLE.true
 
-pub returns : goal.returns
-returns c = c.target_input.ensures ∙ value_some _ _ _ _ c.if-p-eq-NO_BUNDLE.false
+pub returns-else-p-eq-NO_BUNDLE : goal.returns-else-p-eq-NO_BUNDLE
+returns-else-p-eq-NO_BUNDLE c = c.target_input.ensures ∙ value_some _ _ _ _ c.if-p-eq-NO_BUNDLE.false

@@ -13,6 +13,3 @@ use Rattle.cfg_emits.proofs.emit.values_in_cases.Given as goal
 abbrev pub invariant-loop-j : goal.invariant-loop-j
 invariant-loop-j l = (l.n ≡ case_total l.w) × (l.n ≤ 8) × (l.j ≤ l.n) × InCases l.j
     (λ i. value_in_case l.w (get_or l.places i 0) l.k l.ty) undef_from l.vs
-
-abbrev pub decreases-loop-j : goal.decreases-loop-j
-decreases-loop-j l = l.n - l.j

@@ -6,8 +6,8 @@ use Rattle.std.proofs.Math.Decide.{dec_lt}
 use Rattle.std.proofs.lemmas.List.{get_or-replicate}
 use Rattle.meaning.specs.Graph.{Graph}
 use Rattle.record.specs.Stands.{OfRecord}
-use Rattle.state_words.specs.declared.defined.Defined.{Defined}
-use Rattle.state_words.specs.declared.defined.Defined.TheVariants.{Number, Full as Refused}
+use Rattle.std.specs.Prelude.{Ok}
+use Rattle.state_words.specs.Totals.{Defined, Made, Done, Full}
 use Rattle.state_words.specs.Sections.{word, stored, stored_all, head, set_starts, set_lengths, outputs, conditions, bundles}
 use Rattle.state_sets.specs.SetTables.{input_word, input_stored}
 use Rattle.state_nodes.specs.NodeTables.{OutputDefined, output_defined, outputs_full, MergeDefined}
@@ -17,8 +17,6 @@ use Rattle.state_shown.specs.Front.{SameKinds}
 use Rattle.state_shown.specs.laws.FrontKept.{kinds_same, kinds_stored, kinds_run, kinds_then, kinds_input_stored}
 use Rattle.cfg_bundles.specs.EdgesAndCases.{input_count, target_type}
 use Rattle.cfg_planning.specs.Planning.{per_case_deferred, to_define, to_merge}
-use Rattle.state_words.specs.declared.defined.Made.{Made}
-use Rattle.state_words.specs.declared.defined.Made.TheVariants.{Done, Full}
 use Rattle.cfg_select_nodes.specs.Turns.{Turns, LeavesRecord}
 use Rattle.cfg_select_nodes.specs.laws.paths.TurnsLaws.{front_turns}
 use Rattle.cfg_emits.specs.Emits.{InCases, value_in_case, ValuesIn, ConditionsIn, EmitInput, input_there, input_made, no_input}
@@ -90,20 +88,20 @@ front_bundle (bundle_emitted t c) = kinds_then (front_inputs t) (front_condition
 -- ---- The functions, path by path.
 module _ (h q : ℕ) (places l : List ℕ) {x : ℕ} {parts l₁ : List ℕ} {a : Defined} (read : x ≡ bundle_condition l q)
     (open_yet : x ≡ to_define) (in_cases : ConditionsIn l places parts) (made : MergeDefined h parts l l₁ a) where
-  pub condition_refused : a ≡ Refused → EmitCondition h q places l l₁ Full
+  pub condition_refused : a ≡ Full → EmitCondition h q places l l₁ Full
   condition_refused e = no_condition (sym read ∙ open_yet) in_cases (rw e at made)
 
-  pub condition_set : {c : ℕ} → a ≡ Number c → {l' : List ℕ} → l' ≡ stored l₁ bundles (bundle_condition_at q) c
+  pub condition_set : {c : ℕ} → a ≡ Ok c → {l' : List ℕ} → l' ≡ stored l₁ bundles (bundle_condition_at q) c
       → EmitCondition h q places l l' Done
   condition_set e p = condition_made (sym read ∙ open_yet) in_cases (rw e at made) p
 
 module _ (node q t : ℕ) (places : List ℕ) (k : ℕ) (l : List ℕ) {x ty : ℕ} {vs l₁ : List ℕ} {a : Defined} (read : x ≡ input_word l q k)
     (open_yet : x ≡ to_merge) (of_type : OfRecord l (λ g. ty ≡ target_type g l t k)) (in_cases : ValuesIn l places k ty vs)
     (made : OutputDefined node ty vs l l₁ a) where
-  pub input_refused : a ≡ Refused → OfRecord l (λ g. EmitInput g node q t places k l l₁ Full)
+  pub input_refused : a ≡ Full → OfRecord l (λ g. EmitInput g node q t places k l l₁ Full)
   input_refused e g s = no_input (sym read ∙ open_yet) (rw (of_type g s) at in_cases) (rw (e, of_type g s) at made)
 
-  pub input_set : {o y : ℕ} → a ≡ Number o → y ≡ output_word o → {l' : List ℕ} → l' ≡ input_stored l₁ q k y
+  pub input_set : {o y : ℕ} → a ≡ Ok o → y ≡ output_word o → {l' : List ℕ} → l' ≡ input_stored l₁ q k y
       → OfRecord l (λ g. EmitInput g node q t places k l l' Done)
   input_set e b p g s = input_made (sym read ∙ open_yet) (rw (of_type g s) at in_cases) (rw (e, of_type g s) at made) (p ∙ rw b)
 

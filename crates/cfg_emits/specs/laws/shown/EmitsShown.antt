@@ -9,7 +9,8 @@ use Rattle.nesting.specs.Nesting.{DeferredTarget}
 use Rattle.nesting.specs.Nesting.{LazyConds, MaybeClaimedRegion, PlannedInput, shared, merged, PlannedBundle, DefinedSelect}
 use Rattle.nesting.specs.Nesting.{conditions_of, NestState, StepAnswer, follow, give, emit_inputs, define_output}
 use Rattle.nesting.specs.Nesting.{most_outputs}
-use Rattle.state_words.specs.declared.defined.Defined.TheVariants.{Number}
+use Rattle.std.specs.Prelude.{Ok}
+use Rattle.state_words.specs.Totals.{Made}
 use Rattle.state_words.specs.Sections.{word, stored, bundles}
 use Rattle.state_sets.specs.SetTables.{input_word, input_stored}
 use Rattle.state_nodes.specs.NodeTables.{OutputDefined, output_defined}
@@ -23,7 +24,6 @@ use Rattle.state_shown.specs.laws.Steps.{output_made, output_changes}
 use Rattle.state_shown.specs.Sets.{Names, ShowsTarget, target_size}
 use Rattle.state_shown.specs.laws.Stores.{word_there, word_apart}
 use Rattle.cfg_bundles.specs.laws.shown.Targets.{target_type_shown}
-use Rattle.state_words.specs.declared.defined.Made.{Made}
 use Rattle.cfg_select_nodes.specs.Turns.{Turns, turns_over, turn_on, turn_refused}
 use Rattle.cfg_select_nodes.specs.laws.shown.Places.{From, first_of, rest_of}
 use Rattle.cfg_emits.specs.Emits.{EmitInput, input_there, input_made, no_input}
@@ -89,7 +89,7 @@ output_names : (o : ℕ) → o < most_outputs → Names (output_word o) (output 
 unfolding output_word
 output_names o h = record { is = value_output o h; below = rw (lt-ltb o most_outputs h) (omega arith) }
 
-output_below : {n ty : ℕ} {vs l l' : List ℕ} {o : ℕ} → OutputDefined n ty vs l l' (Number o) → o < most_outputs
+output_below : {n ty : ℕ} {vs l l' : List ℕ} {o : ℕ} → OutputDefined n ty vs l l' (Ok o) → o < most_outputs
 output_below (output_defined p h e) = h
 
 -- The definition's fold, an input in front.

@@ -22,7 +22,7 @@ use Rattle.state_shown.specs.laws.RegionsKept.{bundle_stays}
 use Rattle.state_shown.specs.laws.Finds.{bundle_in}
 use Rattle.state_shown.specs.laws.Stores.{word_there, word_apart}
 use Rattle.cfg_emits.specs.laws.shown.SmallTypes.{SmallTypes}
-use Rattle.state_words.specs.declared.defined.Made.{Made}
+use Rattle.state_words.specs.Totals.{Made}
 use Rattle.cfg_select_nodes.specs.Turns.{Turns, turns_over, turn_on, turn_refused}
 use Rattle.cfg_select_nodes.specs.laws.shown.Places.{From, first_of, rest_of, from_start}
 use Rattle.cfg_emits.specs.Emits.{EmitCondition, condition_there, condition_made, no_condition, EmitBundle, inputs_refused}

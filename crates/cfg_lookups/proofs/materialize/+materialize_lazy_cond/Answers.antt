@@ -2,6 +2,7 @@ use mathlib.Core.Path.{◌≡◌, refl}
 use Prim.Native.Nat.{ℕ, ◌-◌, ◌<◌, ◌≤◌}
 use native.Mathlib.Omega.{arith}
 use lib.ListN.{length, length-set}
+use Rattle.state_words.specs.laws.Filled.{full_of_err}
 use borrow.Author.Rules.{rules}
 use Rattle.state_words.specs.Sections.{word, conditions}
 use Rattle.cfg_lookups.specs.Materialized.{PartsMade, no_part, made_true, made_false, made_undef}
@@ -39,14 +40,15 @@ materialize_lazy_cond-requires t c = (
   tt,
 )
 
-pub returns-in-Full : goal.returns-in-Full
-returns-in-Full t c =
-    part_full _ _ c.loop-j.invariant.0
+pub returns-in_err-vs : goal.returns-in_err-vs
+returns-in_err-vs t c =
+    rw (full_of_err c.from_residual.ensures.0)
+    (part_full _ _ c.loop-j.invariant.0
     c.shape_size-n.ensures
     c.cond_shape.ensures
     c.loop-j-test.true c.cond_part-part.ensures
     c.materialize_lazy_cond.ensures
-    c.if-c-lt-MERGE.false c.in-Full.is
+    c.if-c-lt-MERGE.false c.in_err-vs.was)
 
 pub bounds-vs-j : goal.bounds-vs-j
 bounds-vs-j t c =
@@ -66,7 +68,7 @@ loop-j-preserved t c = (
       c.cond_shape.ensures
       c.loop-j-test.true
       c.cond_part-part.ensures c.materialize_lazy_cond.ensures
-      c.in-Number.is,
+      c.in_ok-vs.was,
   simp length-set c.loop-j.invariant.1,
   omega
       (arith, c.loop-j-test.true),

@@ -16,8 +16,5 @@ use Rattle.cfg_lookups.proofs.materialize.+materialize_lazy_cond.Given as goal
 abbrev pub invariant-loop-j : goal.invariant-loop-j
 invariant-loop-j l = PartsMade l.initial.w l.c l.j l.w l.vs × (length l.vs ≡ 8) × (l.j ≤ l.n)
 
-abbrev pub decreases-loop-j : goal.decreases-loop-j
-decreases-loop-j l = l.n - l.j
-
 abbrev pub decreases-materialize_lazy_cond : goal.decreases-materialize_lazy_cond
 decreases-materialize_lazy_cond l = l.c

@@ -4,8 +4,8 @@ use Rattle.std.specs.Prelude.{◌≡◌, refl, Bool, true, false, List, ℕ, ◌
 use Rattle.std.proofs.Common.{sym, ◌∙◌, arith}
 use Rattle.std.proofs.Math.Decide.{dec_lt, ℕ_discrete}
 use borrow.Author.Tests.{lt-ltb, le-ltb, eq-eqb, ne_eqb}
-use Rattle.state_words.specs.declared.defined.Defined.{Defined}
-use Rattle.state_words.specs.declared.defined.Defined.TheVariants.{Number, Full}
+use Rattle.std.specs.Prelude.{Ok}
+use Rattle.state_words.specs.Totals.{Defined, Full}
 use Rattle.state_words.specs.Values.{output_word, true_word, false_word}
 use Rattle.state_nodes.specs.NodeTables.{earlier_part, shape_size, OutputDefined}
 use Rattle.cfg_lookups.specs.Materialized.{is_scrutinee, shape_at, part_at, Merges, the_scrutinee, new_output, no_output}
@@ -33,7 +33,7 @@ module _ (l : List ℕ) (c : ℕ) (vs : List ℕ) (shape : ℕ) (b : Bool) (of_s
   answer_is : is_scrutinee (shape_at l c) vs ≡ b
   answer_is = rw (← of_shape) (sym test)
 
-  pub merged_scrutinee : b ≡ true → {x : ℕ} → x ≡ merge_scrutinee l c → Merges l c vs l (Number x)
+  pub merged_scrutinee : b ≡ true → {x : ℕ} → x ≡ merge_scrutinee l c → Merges l c vs l (Ok x)
   merged_scrutinee e p = the_scrutinee (answer_is ∙ e) p refl
 
   module _ (other : b ≡ false) {l' : List ℕ} {node : ℕ} {a : Defined} (of_node : node ≡ merge_node l c)
@@ -41,7 +41,7 @@ module _ (l : List ℕ) (c : ℕ) (vs : List ℕ) (shape : ℕ) (b : Bool) (of_s
     pub merged_full : a ≡ Full → Merges l c vs l' Full
     merged_full e = no_output (answer_is ∙ other) (rw (of_node, e) at made)
 
-    pub merged_output : {o : ℕ} → a ≡ Number o → {x : ℕ} → x ≡ output_word o → Merges l c vs l' (Number x)
+    pub merged_output : {o : ℕ} → a ≡ Ok o → {x : ℕ} → x ≡ output_word o → Merges l c vs l' (Ok x)
     merged_output e p = new_output (answer_is ∙ other) (rw (of_node, e) at made) p
 
 -- ---- The parts of a record, in turn.
@@ -66,7 +66,7 @@ module _ {l l₁ vs : List ℕ} {c j : ℕ} (n shape : ℕ) (made : PartsMade l 
   size_is = size ∙ rw of_shape
 
   module _ (more : j < n) {p : ℕ} (part : p ≡ part_at l₁ c j) {l₂ : List ℕ} {a : Defined} (next : Materializes l₁ p l₂ a) where
-    pub part_turn : {v : ℕ} → a ≡ Number v → PartsMade l c (j + 1) l₂ (set vs j v)
+    pub part_turn : {v : ℕ} → a ≡ Ok v → PartsMade l c (j + 1) l₂ (set vs j v)
     part_turn e = part_more made (rw size_is at more) part (rw e at next) refl refl
 
     pub part_full : merges_from ≤ c → a ≡ Full → Materializes l c l₂ Full

@@ -12,8 +12,8 @@ use Rattle.meaning.specs.facts.Tests.{clash, pick_and}
 use Rattle.nesting.specs.Nesting.{LazyCond, LazyConds, no_conds, ◌&◌, merge, true_cond, false_cond, undef_cond, NestState, StepAnswer, done}
 use Rattle.nesting.specs.Nesting.{turned_away, follow, give, materialize_lazy_cond, materialize_lazy_conds, define_output}
 use Rattle.nesting.specs.Nesting.{most_outputs}
-use Rattle.state_words.specs.declared.defined.Defined.{Defined}
-use Rattle.state_words.specs.declared.defined.Defined.TheVariants.{Number, Full}
+use Rattle.std.specs.Prelude.{Ok}
+use Rattle.state_words.specs.Totals.{Defined, Full}
 use Rattle.state_words.specs.Sections.{conditions, cells, outputs}
 use Rattle.state_words.specs.Values.{output_word, undef_word, true_word, false_word}
 use Rattle.state_nodes.specs.NodeTables.{earlier_part, shape_size, select_word, OutputDefined, output_defined, outputs_full}
@@ -98,9 +98,9 @@ module _ (l : List ℕ) (c : ℕ) (ws l' : List ℕ) {s : NestState} (t : ShowsT
         | no l ↦ ap value (beyond j (omega arith) h) ∙ value_beyond ∙ sym (get_or-eq_default vs (undef 0) (omega arith))
       ]
 
-  as_value : {a : Defined} {b : StepAnswer Value} → ShowsDefined (λ o u. u ≡ output o) l' a b → {o x : ℕ} → a ≡ Number o → o < most_outputs
+  as_value : {a : Defined} {b : StepAnswer Value} → ShowsDefined (λ o u. u ≡ output o) l' a b → {o x : ℕ} → a ≡ Ok o → o < most_outputs
       → x ≡ output_word o
-      → ShowsDefined (λ y u. value y ≡ u) l' (Number x) b
+      → ShowsDefined (λ y u. value y ≡ u) l' (Ok x) b
   as_value d {o} {x} e h p =
       let r = done_of d e in
       rw r.is (shows_done {x = x} {a = r.value} {s = r.state} (ap value p ∙ value_output o h ∙ sym r.shows) r.tables)
@@ -114,7 +114,7 @@ module _ (l : List ℕ) (c : ℕ) (ws l' : List ℕ) {s : NestState} (t : ShowsT
       let made = rw node at d in
       rw test (record { answer = as_value (output_made t len shown_words made) refl (below made refl) x; changes = output_changes made })
     where
-      below : {n : ℕ} {a : Defined} → OutputDefined n 1 ws l l' a → {o : ℕ} → a ≡ Number o → o < most_outputs
+      below : {n : ℕ} {a : Defined} → OutputDefined n 1 ws l l' a → {o : ℕ} → a ≡ Ok o → o < most_outputs
       below (output_defined {o} p h e) {o = q} r = let same : o ≡ q = cc in rw same at h
       below (outputs_full h e) r = absurd (clash (cc))
   merges_shown (no_output e d) =
@@ -179,7 +179,7 @@ module _ {l : List ℕ} {c : ℕ} {ts : LazyConds} {s : NestState} where
   parts_next : {l₁ l₂ ws us : List ℕ} {j i p v : ℕ} → j < cond_count ts → cond_count ts ≤ 8 → p ≡ part_at l₁ c j → i ≡ j + 1
       → us ≡ set ws j v
       → ((t : LazyCond) → ShowsCond l₁ p t → (s₁ : NestState) → ShowsTables l₁ s₁
-      → ShowsValue l₁ l₂ (Number v) (materialize_lazy_cond t s₁))
+      → ShowsValue l₁ l₂ (Ok v) (materialize_lazy_cond t s₁))
       → (x : PartsShown l c j l₁ ws ts s) (rest : LazyConds) → ShowsConds l c j rest
       → j + cond_count rest ≡ cond_count ts
       → materialize_lazy_conds ts s ≡ follow (materialize_lazy_conds rest x.state) (λ us. give (x.values ++ us))
@@ -236,7 +236,7 @@ all_made e x no_conds n on = on ∙ rw (append-nil x.values)
 all_made e x (t & ts) n on = absurd (omega arith)
 
 module _ {l l' : List ℕ} {c : ℕ} where
-  true_shown : c ≡ condition_true → l' ≡ l → RecordsCond l c l' (Number true_word)
+  true_shown : c ≡ condition_true → l' ≡ l → RecordsCond l c l' (Ok true_word)
   unfolding materialize_lazy_cond
   true_shown e h true_cond (shows_true f) s t = rw h
       (record { answer = shows_done value_true t; changes = nothing_changes outputs outputs_at l })
@@ -244,7 +244,7 @@ module _ {l l' : List ℕ} {c : ℕ} where
   true_shown e h undef_cond (shows_undef f) s t = absurd (omega arith)
   true_shown e h (merge n k v ts) (shows_merge a u b d f ps) s t = absurd (omega arith)
 
-  false_shown : c ≡ condition_false → l' ≡ l → RecordsCond l c l' (Number false_word)
+  false_shown : c ≡ condition_false → l' ≡ l → RecordsCond l c l' (Ok false_word)
   unfolding materialize_lazy_cond
   false_shown e h true_cond (shows_true f) s t = absurd (omega arith)
   false_shown e h false_cond (shows_false f) s t = rw h (record {
@@ -256,7 +256,7 @@ module _ {l l' : List ℕ} {c : ℕ} where
   false_shown e h (merge n k v ts) (shows_merge a u b d f ps) s t = absurd (omega arith)
 
   undef_shown : (c ≡ condition_true → ⊥) → (c ≡ condition_false → ⊥) → c < merges_from → {x : ℕ} → x ≡ undef_word 1 → l' ≡ l
-      → RecordsCond l c l' (Number x)
+      → RecordsCond l c l' (Ok x)
   unfolding materialize_lazy_cond
   undef_shown p q b x h true_cond (shows_true f) s t = absurd (p f)
   undef_shown p q b x h false_cond (shows_false f) s t = absurd (q f)

@@ -1,11 +1,13 @@
 -- For the proofs of exits.rt: an edge is added to each bundle whose target the exit list names, bundle by bundle; the record stands through
 -- all turns, since a turn reads the exit list from it.
 use Rattle.std.specs.Prelude.{◌≡◌, Bool, true, false, List, length, get_or, drop}
-use Rattle.std.proofs.Common.{sym, ◌∙◌, drop_of_length-le, drop-cons, eq-eqb, ne_eqb}
-use Prim.Native.Nat.{ℕ, suc, ◌+◌, ◌-◌, ◌≤◌, ◌<◌, min}
+use Rattle.std.proofs.Common.{sym, ◌∙◌, eqb, drop_of_length-le, drop-cons}
+use Prim.Native.Nat.{ℕ, zero, suc, ◌+◌, ◌-◌, ◌≤◌, ◌<◌, min}
 use native.Mathlib.Omega.{arith}
 use Rattle.std.proofs.Math.Numerals.{add-one}
+use Rattle.std.specs.List.{list_any, range_with_len}
 use Rattle.meaning.specs.Graph.{Graph}
+use Rattle.meaning.specs.facts.Tests.{eqb_sym}
 use Rattle.meaning.specs.Lists.{pick, is_in}
 use Rattle.state_words.specs.Sections.{word, stored, bundles, set_starts, set_lengths}
 use Rattle.record.specs.Stands.{OfRecord}
@@ -33,18 +35,16 @@ module _ (g : Graph) (r p : ℕ) (l : List ℕ) {t : ℕ} {b : Bool} (of_target 
   unfolding exit_added
   exit_not e = rw (tells, e)
 
--- ---- The search in the exit list: those from place k on.
-module _ (t : ℕ) (xs : List ℕ) {n k : ℕ} (count : n ≡ length xs) {whole : Bool} (left : is_in t (drop k xs) ≡ whole) where
-  pub found_nowhere : n ≤ k → false ≡ whole
-  found_nowhere h = rw (drop_of_length-le xs {i = k} (omega arith)) at left
+-- ---- The search in a list by its places, from place a on.
+by_places : (t : ℕ) (xs : List ℕ) (n a : ℕ) → length xs ≡ n + a
+    → list_any (λ k. eqb (get_or xs k 0) t) (range_with_len a n) ≡ is_in t (drop a xs)
+by_places t xs zero a e = rw (drop_of_length-le xs {i = a} (omega arith))
+by_places t xs (suc n) a e =
+    rw (add-one a, drop-cons xs a 0 (omega arith), eqb_sym t (get_or xs a 0), by_places t xs n (suc a) (omega arith))
 
-  module _ (more : k < n) {x : ℕ} (here : x ≡ get_or xs k 0) where
-    pub found_here : x ≡ t → true ≡ whole
-    found_here f = rw (eq-eqb t (get_or xs k 0) (sym f ∙ here)) at (rw (drop-cons xs k 0 (omega arith)) at left)
-
-    pub found_later : (x ≡ t → ⊥) → is_in t (drop (k + 1) xs) ≡ whole
-    found_later d =
-        rw (add-one k) (rw (ne_eqb t (get_or xs k 0) (λ z. d (here ∙ sym z))) at (rw (drop-cons xs k 0 (omega arith)) at left))
+pub any_in_places : (t : ℕ) (xs : List ℕ) {n : ℕ} → n ≡ length xs
+    → list_any (λ k. eqb (get_or xs k 0) t) (range_with_len 0 n) ≡ is_in t xs
+any_in_places t xs {n} e = by_places t xs n 0 (omega arith)
 
 -- ---- The turns over a set: the record stands on, and what is left makes the whole.
 pub exit_front : (g : Graph) (r p : ℕ) (l : List ℕ) → SameKinds l (exit_added g r p l)

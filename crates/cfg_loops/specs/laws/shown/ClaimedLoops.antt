@@ -19,8 +19,8 @@ use Rattle.nesting.specs.steps.StatesKept.{KeepsStates}
 use Rattle.nesting.proofs.steps.StatesSteady.{states_kept_steady, states_kept_log}
 use Rattle.nesting.specs.lookups.ChainEnds.{ChainsEnd}
 use Rattle.record.specs.Stands.{OfRecord}
-use Rattle.state_words.specs.declared.defined.Defined.{Defined}
-use Rattle.state_words.specs.declared.defined.Defined.TheVariants.{Number, Full}
+use Rattle.std.specs.Prelude.{Ok}
+use Rattle.state_words.specs.Totals.{Defined, Made, Done, Full}
 use Rattle.state_words.specs.Sections as sections
 use Rattle.state_words.specs.Sections.{Section, number, used, word, stored, head, children, bodies, rewrites, set_starts}
 use Rattle.state_words.specs.Sections.{set_lengths}
@@ -43,8 +43,6 @@ use Rattle.state_shown.specs.laws.SetStores.{only_word_same}
 use Rattle.state_shown.specs.laws.RegionSteps.{Concerns, concerns_then, word_concerns, bundle_same, bundle_run, bundle_concerns, aside_by}
 use Rattle.state_shown.specs.laws.RegionSteps.{named_by, named_stay, slots_stay, OnlyRegion, only_region_then, only_region_aside}
 use Rattle.state_shown.specs.laws.RegionSteps.{only_region_concerns, only_region_states, state_next, body_set}
-use Rattle.state_words.specs.declared.defined.Made.{Made}
-use Rattle.state_words.specs.declared.defined.Made.TheVariants.{Done, Full as Refused}
 use Rattle.cfg_bundles.specs.EdgesAndCases.{condition_in}
 use Rattle.cfg_loops.specs.Inputs.{backedge_inputs}
 use Rattle.cfg_loops.specs.Exits.{exits_added}
@@ -127,7 +125,7 @@ region_log s {n} {s₁} e = go (ltb s.region_count most_regions) e
     go true q = ap (λ z. (log_of z s).region_input_rewrites) (sym q)
     go false q = absurd (clash (cc))
 
-defined_below : {i limit n : ℕ} {l l' : List ℕ} {a : Defined} → Defines i limit l l' a → a ≡ Number n → n < limit
+defined_below : {i limit n : ℕ} {l l' : List ℕ} {a : Defined} → Defines i limit l l' a → a ≡ Ok n → n < limit
 defined_below {n} (defined {n = m} p h e) q = let same : m ≡ n = cc in rw same at h
 defined_below (full h e) q = absurd (clash (cc))
 
@@ -145,7 +143,7 @@ pub data ShowsLoop (g : Graph) (w : List ℕ) (r : ℕ) (inputs : List Value) (s
     → Type 0 where
   shows_loop : {c : ClaimedRegion} {s' : NestState} → ShowsState g w s' → s'.region_states ≡ s.region_states → ShowsClaimed g w c
       → c.origin ≡ r → c.structured_body_inputs ≡ inputs → ShowsLoop g w r inputs s Done (done (some c) s')
-  loop_refused : ShowsLoop g w r inputs s Refused (turned_away too_many 0)
+  loop_refused : ShowsLoop g w r inputs s Full (turned_away too_many 0)
 
 pub record LoopShown (g : Graph) (r : ℕ) (inputs : List Value) (w w' : List ℕ) (s : NestState) (a : Made)
     (b : StepAnswer (Option ClaimedRegion)) : Type 0 where
@@ -170,7 +168,7 @@ made_of (made_done {v} {n} {s} t k) e = record { v = v; n = n; state = s; is = r
 made_of made_refused e = absurd (clash (cc))
 
 refused_of : {A : Type 0} {F : Value → ℕ → A} {g : Graph} {r : ℕ} {l : List ℕ} {y : LoopInputs} {ks : Nodes} {a : Made} {b : StepAnswer A}
-    → ShowsLoopMade F g r l y ks a b → a ≡ Refused → b ≡ turned_away too_many 0
+    → ShowsLoopMade F g r l y ks a b → a ≡ Full → b ≡ turned_away too_many 0
 refused_of (made_done t k) e = absurd (clash (cc))
 refused_of made_refused e = refl
 
@@ -253,7 +251,7 @@ module _ {g : Graph} {w : List ℕ} {s : NestState} {r p i : ℕ} {ks : Nodes} {
       only_region_then (only_region_concerns concerns₀)
       (only_region_aside r (aside_by (defines_changes y) (omega arith) (omega arith) (omega arith) (omega arith) g))
 
-  refused_wrapper : {w' : List ℕ} → Defines 0 most_regions w₀ w' Full → LoopShown g r inputs w w' s Refused gives
+  refused_wrapper : {w' : List ℕ} → Defines 0 most_regions w₀ w' Full → LoopShown g r inputs w w' s Full gives
   unfolding structurize_loop
   refused_wrapper y =
       let total = concerns₀.same_head cells_at in
@@ -267,7 +265,7 @@ module _ {g : Graph} {w : List ℕ} {s : NestState} {r p i : ℕ} {ks : Nodes} {
 
   -- As far as the loop: the wrapper defined, the inputs entered, the loop made or refused.
   module _ {n wrapper h : ℕ} {l₁ l₂ l₃ : List ℕ} {a : Made} (count : n ≡ length (region g r).inputs)
-      (wraps : Defines 0 most_regions w₀ l₁ (Number wrapper)) (enter : EntersInputs r wrapper n l₁ (backedge_inputs w p) l₂ h)
+      (wraps : Defines 0 most_regions w₀ l₁ (Ok wrapper)) (enter : EntersInputs r wrapper n l₁ (backedge_inputs w p) l₂ h)
       (make : LoopDefined r (condition_in w p (word w set_lengths r)) h l₂ l₃ a) where
     region₁ : Defines_done (λ k m. k ≡ m) l₁ wrapper (define_region s)
     region₁ = done_of (region_defined tables₀ wraps) refl
@@ -335,7 +333,7 @@ module _ {g : Graph} {w : List ℕ} {s : NestState} {r p i : ℕ} {ks : Nodes} {
     total_to₃ : word l₃ head cells_at ≤ word w head cells_at + 5
     total_to₃ = let a = total₁ in let b = entered.total_to in let c = made.0.total_to in omega arith
 
-    refused_loop : a ≡ Refused → LoopShown g r inputs w l₃ s Refused gives
+    refused_loop : a ≡ Full → LoopShown g r inputs w l₃ s Full gives
     refused_loop refused =
         record {
           answer = rw (gives_so, refused_of made.1 refused) loop_refused;

@@ -7,7 +7,7 @@ use Rattle.nesting.specs.Nesting.{NestState, RewriteEntry, done, rewrite_values,
 use Rattle.nesting.specs.Nesting.{take_inputs, no_inputs, DeferredEdgeBundleSet, LazyCond, StepAnswer, turned_away, Step, ◌>>=◌, give}
 use Rattle.nesting.specs.Nesting.{materialize_lazy_cond, define_node, LoopInputs, loop_node, most_regions, most_nodes}
 use Rattle.nesting.specs.lookups.ChainEnds.{ChainsEnd}
-use Rattle.state_words.specs.declared.defined.Defined.{Defined}
+use Rattle.state_words.specs.Totals.{Defined, Made, Done, Full}
 use Rattle.state_words.specs.Sections as sections
 use Rattle.state_words.specs.Sections.{Section, number, used, section, word, stored, head, rewrites, children, bundles, set_starts}
 use Rattle.state_words.specs.Sections.{set_lengths}
@@ -30,8 +30,6 @@ use Rattle.state_shown.specs.laws.CellSteps.{ShowsKeptList, kept_list_by, cell_a
 use Rattle.state_shown.specs.laws.NamedSteps.{named_inserted}
 use Rattle.cfg_lookups.specs.Materialized.{Materializes}
 use Rattle.cfg_lookups.specs.laws.shown.ConditionsShown.{materialize_shown}
-use Rattle.state_words.specs.declared.defined.Made.{Made}
-use Rattle.state_words.specs.declared.defined.Made.TheVariants.{Done, Full as Refused}
 use Rattle.cfg_loops.specs.Loops.{AddsLoop, adds_loop, LoopDefined, loop_defined, no_value, no_node, EntersInputs, enters}
 use Rattle.cfg_loops.specs.laws.shown.RewritesShown.{Rewritten, rewritten_to}
 use Rattle.cfg_loops.specs.laws.shown.InputsShown.{InputsTaken, taken_to}
@@ -132,7 +130,7 @@ pub data ShowsLoopMade {A : Type 0} (F : Value → ℕ → A) (g : Graph) (r : �
     : Made → StepAnswer A → Type 0 where
   made_done : {v : Value} {n : ℕ} {s : NestState} → ShowsTables l s
       → ShowsChildren g l (word l children r) (loop (loop_node g n r y v) ks ▸ ⟨⟩) → ShowsLoopMade F g r l y ks Done (done (F v n) s)
-  made_refused : ShowsLoopMade F g r l y ks Refused (turned_away too_many 0)
+  made_refused : ShowsLoopMade F g r l y ks Full (turned_away too_many 0)
 
 abbrev pub loop_step : {A : Type 0} → LazyCond → (Value → ℕ → A) → Step A
 loop_step t F = materialize_lazy_cond t >>= λ v. define_node >>= λ n. give (F v n)

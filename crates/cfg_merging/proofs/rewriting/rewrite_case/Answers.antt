@@ -1,5 +1,4 @@
 use Rattle.cfg_merging.specs.laws.paths.RewritingLaws.{case_path}
-use borrow.Author.Rules.{rules}
 use Rattle.cfg_merging.proofs.rewriting.rewrite_case.Goals as goal
 
 pub returns : goal.returns

@@ -1,10 +1,7 @@
-use Rattle.cfg_merging.specs.Rewriting.{rewrite_case, rewrite_cases}
+use Rattle.cfg_merging.specs.Rewriting.{rewrite_cases}
 use Rattle.cfg_merging.specs.laws.paths.RewritingLaws.{front_case}
-use Rattle.cfg_merging.specs.Turns.{Left, left_first, left_next, left_last}
-use Rattle.record.specs.Stands.{OfRecord}
-use Prim.Native.Nat.{◌-◌}
+use Rattle.cfg_merging.specs.Turns.{left_next, left_last}
 use mathlib.Core.Path.{◌∙◌}
-use borrow.Author.Rules.{rules}
 use Rattle.cfg_merging.proofs.rewriting.rewrite_cases.Goals as goal
 
 pub loop-j-preserved : goal.loop-j-preserved

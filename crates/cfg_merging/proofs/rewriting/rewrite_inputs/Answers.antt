@@ -1,9 +1,5 @@
-use Rattle.cfg_merging.specs.Rewriting.{rewrite_case_input}
 use Rattle.cfg_merging.specs.laws.paths.RewritingLaws.{inputs_path}
-use Rattle.cfg_merging.specs.Turns.{turned, turn_first, turn_next}
-use mathlib.Core.Path.{◌≡◌}
-use Prim.Native.Nat.{◌-◌}
-use borrow.Author.Rules.{rules}
+use Rattle.cfg_merging.specs.Turns.{turn_next}
 use Rattle.cfg_merging.proofs.rewriting.rewrite_inputs.Goals as goal
 
 pub loop-k-preserved : goal.loop-k-preserved

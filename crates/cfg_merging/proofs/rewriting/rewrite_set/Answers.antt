@@ -1,10 +1,7 @@
-use Rattle.cfg_merging.specs.Rewriting.{rewrite_bundle, rewrite_set}
+use Rattle.cfg_merging.specs.Rewriting.{rewrite_set}
 use Rattle.cfg_merging.specs.laws.paths.RewritingLaws.{front_bundle}
-use Rattle.cfg_merging.specs.Turns.{Left, left_first, left_next, left_last}
-use Rattle.record.specs.Stands.{OfRecord}
-use Prim.Native.Nat.{◌-◌}
+use Rattle.cfg_merging.specs.Turns.{left_next, left_last}
 use Rattle.state_sets.specs.SetTables.{bundle_at}
-use borrow.Author.Rules.{rules}
 use Rattle.cfg_merging.proofs.rewriting.rewrite_set.Goals as goal
 
 pub loop-i-preserved : goal.loop-i-preserved

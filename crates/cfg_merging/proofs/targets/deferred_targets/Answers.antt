@@ -1,9 +1,5 @@
-use Rattle.cfg_merging.specs.Targets.{summarize_case}
 use Rattle.cfg_merging.specs.laws.paths.TargetsLaws.{targets_path}
-use Rattle.cfg_merging.specs.Turns.{turned, turn_first, turn_next}
-use mathlib.Core.Path.{◌≡◌}
-use Prim.Native.Nat.{◌-◌}
-use borrow.Author.Rules.{rules}
+use Rattle.cfg_merging.specs.Turns.{turn_next}
 use Rattle.cfg_merging.proofs.targets.deferred_targets.Goals as goal
 
 pub loop-j-preserved : goal.loop-j-preserved

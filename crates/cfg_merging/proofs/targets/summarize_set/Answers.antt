@@ -1,9 +1,5 @@
-use Rattle.cfg_merging.specs.Targets.{summarize_bundle, summarize_set}
-use Rattle.cfg_merging.specs.Turns.{turned, turn_first, turn_next, turn_last}
-use mathlib.Core.Path.{◌≡◌}
-use Prim.Native.Nat.{◌-◌}
-use Rattle.state_sets.specs.SetTables.{bundle_at}
-use borrow.Author.Rules.{rules}
+use Rattle.cfg_merging.specs.Targets.{summarize_set}
+use Rattle.cfg_merging.specs.Turns.{turn_next, turn_last}
 use Rattle.cfg_merging.proofs.targets.summarize_set.Goals as goal
 
 pub loop-i-preserved : goal.loop-i-preserved

@@ -6,6 +6,10 @@ use Rattle.meaning.specs.Lists.{pick}
 use Rattle.meaning.specs.Graph.{Graph, region}
 use Rattle.record.specs.Stands.{OfRecord}
 use Rattle.state_words.specs.Sections.{stored, head, cases}
+use Rattle.state_regions.specs.declared.cases.CaseKind.{CaseKind}
+use Rattle.state_regions.specs.declared.cases.CaseKind.TheVariants.{ClaimedRegion}
+use Rattle.state_regions.specs.RegionTables.{case_kind_of}
+use Rattle.state_regions.specs.laws.KindsBack.{kind_is, kind_not}
 use Rattle.state_sets.specs.SetTables.{input_word, input_stored, bundle_at}
 use Rattle.cfg_lookups.specs.LookUps.{look_up, Rewrites}
 use Rattle.state_shown.specs.Front.{SameKinds}
@@ -83,15 +87,15 @@ module _ (l l' : List ℕ) (p n t k : ℕ) (over : n ≤ k) where
   inputs_path of_origin count left g st =
       turn_last (λ m i. rewrite_case_input m p i) l' n k left over ∙ rw (← of_origin, ← count g st)
 
-module _ (l : List ℕ) (j kind : ℕ) (of_kind : kind ≡ case_kind l j) where
-  pub given_path : kind ≡ case_claimed → {l₁ : List ℕ} → OfRecord l (λ g. l₁ ≡ rewrite_inputs g l j)
+module _ (l : List ℕ) (j : ℕ) (kind : CaseKind) (of_kind : kind ≡ case_kind_of (case_kind l j)) where
+  pub given_path : kind ≡ ClaimedRegion → {l₁ : List ℕ} → OfRecord l (λ g. l₁ ≡ rewrite_inputs g l j)
       → OfRecord l (λ g. l₁ ≡ rewrite_given g l j)
   unfolding rewrite_given
-  given_path e inputs g st = inputs g st ∙ rw (← of_kind, eq-eqb kind case_claimed e)
+  given_path e inputs g st = inputs g st ∙ rw (eq-eqb (case_kind l j) case_claimed (kind_is of_kind e))
 
-  pub none_given : (kind ≡ case_claimed → ⊥) → OfRecord l (λ g. l ≡ rewrite_given g l j)
+  pub none_given : (kind ≡ ClaimedRegion → ⊥) → OfRecord l (λ g. l ≡ rewrite_given g l j)
   unfolding rewrite_given
-  none_given d g st = rw (← of_kind, ne_eqb kind case_claimed d)
+  none_given d g st = rw (ne_eqb (case_kind l j) case_claimed (kind_not of_kind d))
 
 pub case_path : (l l₁ l₂ : List ℕ) (j start n : ℕ) → OfRecord l (λ g. l₁ ≡ rewrite_given g l j) → start ≡ case_set_start l₁ j
     → n ≡ case_set_length l₁ j → OfRecord l₁ (λ g. l₂ ≡ rewrite_set g l₁ start n) → OfRecord l (λ g. l₂ ≡ rewrite_case g l j)

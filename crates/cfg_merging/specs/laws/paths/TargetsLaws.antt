@@ -1,7 +1,9 @@
 -- For the proofs of targets.rt: a bundle that has a fellow for its target adds its edges there, another gets a row of its own.
 use Rattle.std.specs.Prelude.{◌≡◌, List, [], ◌∷◌, ℕ, ◌+◌, ◌-◌, ◌≤◌, min}
 use Rattle.std.proofs.Common.{◌∙◌}
-use borrow.Author.Tests.{eq-eqb, ne_eqb}
+use native.Mathlib.Omega.{arith}
+use Rattle.std.proofs.Math.Decide.{dec_lt}
+use borrow.Author.Tests.{lt-ltb, le-ltb, eq-eqb, ne_eqb}
 use Rattle.state_words.specs.Sections.{word, stored, stored_all, set_starts, set_lengths, bundles}
 use Rattle.state_words.specs.Totals.{edges_word}
 use Rattle.state_sets.specs.SetTables.{find_by, bundle_at}
@@ -11,6 +13,14 @@ use Rattle.cfg_merging.specs.Turns.{turned, turn_last}
 use Rattle.cfg_merging.specs.Targets.{longer, summarize_bundle, summarize_case, deferred_targets}
 use Rattle.state_words.specs.Rows.{bundle_count, bundle_count_at, bundle_row_at, bundle_target, largest, return_word, spare_slot}
 use Rattle.state_words.specs.Rows.{no_bundle_word}
+
+-- The length of a set with one more.
+pub one_longer : (n : ℕ) {m : ℕ} → m ≡ min (n + 1) largest → m ≡ longer n 1
+unfolding longer
+one_longer n e = elim (dec_lt n (largest - 1)) [
+  | yes h ↦ rw (lt-ltb n (largest - 1) h) (omega arith)
+  | no h ↦ rw (le-ltb n (largest - 1) (omega arith)) (omega arith)
+]
 
 -- ---- The functions, path by path.
 module _ (l : List ℕ) (p start n t count q : ℕ) (of_start : start ≡ word l set_starts spare_slot)

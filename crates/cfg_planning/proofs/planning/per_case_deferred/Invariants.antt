@@ -1,14 +1,9 @@
 use Rattle.cfg_planning.specs.Planning.{place_of, per_case_deferred}
-use Rattle.cfg_planning.specs.laws.paths.PlanningLaws.{few_total, places_first}
-use Rattle.cfg_merging.specs.Turns.{turned, turn_next, turn_last}
+use Rattle.cfg_merging.specs.Turns.{turned}
 use mathlib.Core.Path.{◌≡◌}
 use Prim.Native.Nat.{◌-◌, ◌≤◌}
 use lib.ListN.{set}
-use borrow.Author.Rules.{rules}
 use Rattle.cfg_planning.proofs.planning.per_case_deferred.Given as goal
 
 abbrev pub invariant-loop-j : goal.invariant-loop-j
 invariant-loop-j l = (l.n ≤ 8) × (turned (λ ps i. set ps i (place_of l.w l.t i)) l.places (l.n - l.j) l.j ≡ per_case_deferred l.w l.t)
-
-abbrev pub decreases-loop-j : goal.decreases-loop-j
-decreases-loop-j l = l.n - l.j

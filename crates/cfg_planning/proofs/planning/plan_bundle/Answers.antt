@@ -1,5 +1,4 @@
 use Rattle.cfg_planning.specs.laws.paths.PlanningLaws.{bundle_true, bundle_conditional}
-use borrow.Author.Rules.{rules}
 use Rattle.cfg_planning.proofs.planning.plan_bundle.Goals as goal
 
 pub returns-then-all_true : goal.returns-then-all_true
@@ -9,8 +8,8 @@ returns-then-all_true c =
     c.plan_inputs-merged.ensures
     c.all_true.ensures c.if-all_true.true
 
-pub returns : goal.returns
-returns c =
+pub returns-else-all_true : goal.returns-else-all_true
+returns-else-all_true c =
     bundle_conditional _ _ _ _ _ _ _
     c.target.ensures
     c.per_case_deferred-places.ensures

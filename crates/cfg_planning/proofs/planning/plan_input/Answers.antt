@@ -1,5 +1,4 @@
 use Rattle.cfg_planning.specs.laws.paths.PlanningLaws.{input_planned}
-use borrow.Author.Rules.{rules}
 use Rattle.cfg_planning.proofs.planning.plan_input.Goals as goal
 
 pub returns : goal.returns

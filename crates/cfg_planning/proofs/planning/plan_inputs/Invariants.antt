@@ -1,16 +1,10 @@
 use Rattle.cfg_planning.specs.Planning.{plan_input, planned, also}
-use Rattle.cfg_planning.specs.laws.paths.PlanningLaws.{need_more, need_same, inputs_next, inputs_planned}
-use Rattle.cfg_merging.specs.Turns.{turned, turn_first}
+use Rattle.cfg_merging.specs.Turns.{turned}
 use Prim.Native.Nat.{◌-◌}
 use mathlib.Core.Path.{◌≡◌}
 use mathlib.Core.Bool.{false}
-use mathlib.Core.Logic.{⊎_elim}
-use borrow.Author.Rules.{rules}
 use Rattle.cfg_planning.proofs.planning.plan_inputs.Given as goal
 
 abbrev pub invariant-loop-k : goal.invariant-loop-k
 invariant-loop-k l = turned (also (λ m i. plan_input m l.q.0 l.places i)) (planned l.w l.merged) (l.n - l.k) l.k
     ≡ turned (also (λ m i. plan_input m l.q.0 l.places i)) (planned l.initial.w false) l.n 0
-
-abbrev pub decreases-loop-k : goal.decreases-loop-k
-decreases-loop-k l = l.n - l.k

@@ -1,10 +1,8 @@
-use Rattle.cfg_planning.specs.Planning.{unique_from, unique_input}
 use Rattle.cfg_planning.specs.laws.paths.PlanningLaws.{unique_past, unique_differs}
 use Rattle.cfg_planning.specs.laws.paths.PlanningLaws.{few_total, unique_first, unique_last}
 use Rattle.cfg_planning.specs.laws.paths.PlanningLaws.{unique_next}
-use mathlib.Core.Path.{◌≡◌, refl}
-use Prim.Native.Nat.{◌-◌, ◌≤◌}
-use borrow.Author.Rules.{rules}
+use mathlib.Core.Path.{ap}
+use lib.ListN.{get_or}
 use Rattle.cfg_planning.proofs.planning.unique_input.Goals as goal
 use Rattle.cfg_planning.proofs.planning.unique_input.Goals.{then-p+else-found, else-p}
 
@@ -14,7 +12,7 @@ loop-j-init c = (few_total _ _ c.case_count-n.ensures, unique_first _ _ c.case_c
 pub returns-then-found : goal.returns-then-found
 returns-then-found c =
     unique_differs _ _ _ _ _ _ c.loop-j.invariant.1
-    c.loop-j-test.true _ refl c.if-p.true
+    c.loop-j-test.true _ (ap (λ i. get_or c.args.places.now i 0) c.from.ensures) c.if-p.true
     c.target_input.ensures
     c.in_parent-v.ensures c.with_passed-found.ensures c.if-found.true
 
@@ -24,9 +22,9 @@ loop-j-preserved c = (
   elim c.if-p.branch [
     | then-p+else-found w ↦
         rw w.found-is
-        (unique_next _ _ _ _ _ _ c.loop-j.invariant.1 c.loop-j-test.true _ refl w.if-p.true w.target_input.ensures w.in_parent-v.ensures
+        (unique_next _ _ _ _ _ _ c.loop-j.invariant.1 c.loop-j-test.true _ (ap (λ i. get_or c.args.places.now i 0) c.from.ensures) w.if-p.true w.target_input.ensures w.in_parent-v.ensures
         w.with_passed-found.ensures w.if-found.false)
-    | else-p w ↦ rw w.found-is (unique_past _ _ _ _ _ _ c.loop-j.invariant.1 c.loop-j-test.true _ refl w.if-p.false)
+    | else-p w ↦ rw w.found-is (unique_past _ _ _ _ _ _ c.loop-j.invariant.1 c.loop-j-test.true _ (ap (λ i. get_or c.args.places.now i 0) c.from.ensures) w.if-p.false)
   ],
 )
 

@@ -1,8 +1,9 @@
 -- For the proofs of planning.rt: a search or a plan over the cases, turn by turn. What is left always makes the same whole, so that the
 -- last turn has the definition's answer. The record stands through all turns, for the plan reads inputs from it.
-use Rattle.std.specs.Prelude.{◌≡◌, Bool, true, false, List, get_or, set, replicate, ltb, eqb}
+use Rattle.std.specs.Prelude.{◌≡◌, refl, ◌||◌, ◌&&◌, Bool, true, false, List, get_or, set, replicate, eqb}
 use Rattle.std.proofs.Common.{◌∙◌, add-one}
-use Prim.Native.Nat.{ℕ, suc, ◌+◌, ◌-◌, ◌≤◌, ◌<◌}
+use Rattle.std.specs.List.{list_all, range_with_len}
+use Prim.Native.Nat.{ℕ, zero, suc, ◌+◌, ◌-◌, ◌≤◌, ◌<◌}
 use native.Mathlib.Omega.{arith}
 use Rattle.std.proofs.Math.Decide.{dec_lt}
 use borrow.Author.Tests.{lt-ltb, le-ltb, eq-eqb, ne_eqb}
@@ -10,22 +11,19 @@ use Rattle.meaning.specs.Lists.{pick}
 use Rattle.meaning.specs.Graph.{Graph}
 use Rattle.record.specs.Stands.{OfRecord}
 use Rattle.state_words.specs.Sections.{word, stored, head, set_starts, set_lengths, bundles}
-use Rattle.state_words.specs.Values.{is_input, input_region, input_index}
 use Rattle.state_sets.specs.SetTables.{input_word, input_stored, bundle_at}
 use Rattle.state_regions.specs.RegionTables.{case_total}
 use Rattle.state_shown.specs.Front.{SameKinds}
 use Rattle.state_shown.specs.laws.FrontKept.{kinds_stored, kinds_then, kinds_input_stored}
 use Rattle.cfg_merging.specs.Turns.{turned, turn_next, turn_last, front_turned, Left, left_next, left_last}
-use Rattle.cfg_bundles.specs.EdgesAndCases.{input_count, condition_in}
+use Rattle.cfg_bundles.specs.EdgesAndCases.{input_count}
 use Rattle.cfg_planning.specs.Planning.{place_of, per_case_deferred, per_case_condition, in_parent, with_passed, unique_from}
 use Rattle.cfg_planning.specs.Planning.{unique_input, to_merge}
 use Rattle.cfg_planning.specs.Planning.{is_true, all_from, all_true, Planned, planned, plan_input, also, plan_inputs, plan_bundle}
 use Rattle.cfg_planning.specs.Planning.{plan_at}
 use Rattle.cfg_planning.specs.Planning.{plan_bundles}
-use Rattle.state_words.specs.Values.{output_from}
-use Rattle.state_words.specs.Rows.{bundle_condition_at, bundle_target, case_body, case_input, case_kind, case_set_length, cases_at}
+use Rattle.state_words.specs.Rows.{bundle_condition_at, bundle_target, cases_at}
 use Rattle.state_words.specs.Rows.{no_bundle_word, spare_slot}
-use Rattle.state_words.specs.Rows.{case_claimed}
 
 -- ---- The record stands in front of all that is stored.
 front_inputs : (g : Graph) (l : List ℕ) (q : ℕ) (ps : List ℕ) → SameKinds l (plan_inputs g l q ps).words
@@ -74,71 +72,7 @@ module _ (l : List ℕ) (n : ℕ) (size : n ≡ case_total l) where
   pub unique_first : (ps : List ℕ) (k : ℕ) → unique_from l ps k (n - 0) 0 to_merge ≡ unique_input l ps k
   unique_first ps k = rw all_turns
 
-  pub all_first : (ps : List ℕ) → all_from l ps (n - 0) 0 ≡ all_true l ps
-  all_first ps = rw all_turns
-
-module _ (l : List ℕ) (j p n : ℕ) (of_length : n ≡ case_set_length l j) where
-  pub condition_ended : n ≡ 0 → 3 ≡ per_case_condition l j p
-  unfolding per_case_condition
-  condition_ended e = rw (← of_length, eq-eqb n 0 e)
-
-  module _ (some_left : n ≡ 0 → ⊥) where
-    pub condition_elsewhere : p ≡ no_bundle_word → 2 ≡ per_case_condition l j p
-    unfolding per_case_condition
-    condition_elsewhere e = rw (← of_length, ne_eqb n 0 some_left, eq-eqb p no_bundle_word e)
-
-    pub condition_there : (p ≡ no_bundle_word → ⊥) → {a : ℕ} → a ≡ condition_in l p n → a ≡ per_case_condition l j p
-    unfolding per_case_condition
-    condition_there d e = e ∙ rw (← of_length, ne_eqb n 0 some_left, ne_eqb p no_bundle_word d)
-
-module _ (l : List ℕ) (j v kind : ℕ) (of_kind : kind ≡ case_kind l j) where
-  pub parent_same : (kind ≡ case_claimed → ⊥) → v ≡ in_parent l j v
-  unfolding in_parent
-  parent_same d = rw (← of_kind, ne_eqb kind case_claimed d)
-
-  module _ (claimed : kind ≡ case_claimed) {const : Bool} (is_const : const ≡ ltb v output_from) where
-    pub parent_const : const ≡ true → v ≡ in_parent l j v
-    unfolding in_parent
-    parent_const e = rw (← of_kind, eq-eqb kind case_claimed claimed, ← is_const, e)
-
-    module _ (not_const : const ≡ false) {given : Bool} (is_given : given ≡ is_input v) where
-      pub parent_none : given ≡ false → to_merge ≡ in_parent l j v
-      unfolding in_parent
-      parent_none e = rw (← of_kind, eq-eqb kind case_claimed claimed, ← is_const, not_const, ← is_given, e)
-
-      module _ (an_input : given ≡ true) {r body : ℕ} (of_region : r ≡ input_region v) (of_body : body ≡ case_body l j) where
-        pub parent_elsewhere : (r ≡ body → ⊥) → to_merge ≡ in_parent l j v
-        unfolding in_parent
-        parent_elsewhere d =
-            rw (
-              ← of_kind,
-              eq-eqb kind case_claimed claimed,
-              ← is_const,
-              not_const,
-              ← is_given,
-              an_input,
-              ← of_region,
-              ← of_body,
-              ne_eqb r body d,
-            )
-
-        pub parent_given : r ≡ body → {k a : ℕ} → k ≡ input_index v → a ≡ case_input l j k → a ≡ in_parent l j v
-        unfolding in_parent
-        parent_given e index is =
-            is ∙ rw (
-              ← of_kind,
-              eq-eqb kind case_claimed claimed,
-              ← is_const,
-              not_const,
-              ← is_given,
-              an_input,
-              ← of_region,
-              ← of_body,
-              eq-eqb r body e,
-              index,
-            )
-
--- A turn of the search for a shared value, and of the test of all conditions.
+-- A turn of the search for a shared value.
 module _ (l ps : List ℕ) (k n j found : ℕ) {whole : ℕ} (left : unique_from l ps k (n - j) j found ≡ whole) where
   pub unique_last : n ≤ j → found ≡ whole
   unfolding unique_from
@@ -165,22 +99,16 @@ module _ (l ps : List ℕ) (k n j found : ℕ) {whole : ℕ} (left : unique_from
         pub unique_next : (f ≡ to_merge → ⊥) → unique_from l ps k (n - (j + 1)) (j + 1) f ≡ whole
         unique_next d = rw (add-one j) (rw (add-one j) at (rw (ne_eqb f to_merge d) at next))
 
-module _ (l ps : List ℕ) (n j : ℕ) {whole : Bool} (left : all_from l ps (n - j) j ≡ whole) where
-  pub all_last : n ≤ j → true ≡ whole
-  unfolding all_from
-  all_last h = let s : n - j ≡ 0 = omega arith in rw s at left
-
-  module _ (more : j < n) {p c : ℕ} {b : Bool} (of_place : p ≡ get_or ps j 0) (of_condition : c ≡ per_case_condition l j p)
-      (test : b ≡ is_true c) where
-    next_true : pick b (all_from l ps (n - (j + 1)) (suc j)) false ≡ whole
-    unfolding all_from
-    next_true = let s : n - j ≡ suc (n - (j + 1)) = omega arith in rw (← of_place, ← of_condition, ← test) at (rw s at left)
-
-    pub all_fails : b ≡ false → false ≡ whole
-    all_fails e = rw e at next_true
-
-    pub all_next : b ≡ true → all_from l ps (n - (j + 1)) (j + 1) ≡ whole
-    all_next e = rw (add-one j) (rw (add-one j) at (rw e at next_true))
+-- The test of all conditions, as one of each case's number.
+pub all_listed : (l ps : List ℕ) (n j : ℕ)
+    → list_all (λ i. is_true (per_case_condition l i (get_or ps i 0))) (range_with_len j n) ≡ all_from l ps n j
+unfolding all_from
+all_listed l ps zero j = refl
+all_listed l ps (suc n) j = go (is_true (per_case_condition l j (get_or ps j 0))) (rw (add-one j) (all_listed l ps n (suc j)))
+  where
+    go : (b : Bool) {x y : Bool} → x ≡ y → (b && x) ≡ pick b y false
+    go true e = e
+    go false e = refl
 
 pub input_planned : (l l₁ : List ℕ) (q : ℕ) (ps : List ℕ) (k v : ℕ) → v ≡ unique_input l ps k → l₁ ≡ input_stored l q k v
     → planned l₁ (eqb v to_merge) ≡ plan_input l q ps k
@@ -192,11 +120,11 @@ also_turn : (f : List ℕ → ℕ → Planned) (l l₁ : List ℕ) (b m m' : Boo
     → planned l₁ m' ≡ also f (planned l m) i
 also_turn f l l₁ b m m' i step more = rw (more, ← step)
 
-pub need_more : {b m' : Bool} (m : Bool) → b ≡ true → m' ≡ true → m' ≡ pick b true m
-need_more m e f = f ∙ rw e
-
-pub need_same : {b m m' : Bool} → b ≡ false → m' ≡ m → m' ≡ pick b true m
-need_same e f = f ∙ rw e
+pub either_needed : (m b : Bool) → m || b ≡ pick b true m
+either_needed true true = refl
+either_needed true false = refl
+either_needed false true = refl
+either_needed false false = refl
 
 pub inputs_next : (l l₁ : List ℕ) (q : ℕ) (ps : List ℕ) (b m m' : Bool) (n k : ℕ) {whole : Planned}
     → turned (also (λ x i. plan_input x q ps i)) (planned l m) (n - k) k ≡ whole → k < n → planned l₁ b ≡ plan_input l q ps k

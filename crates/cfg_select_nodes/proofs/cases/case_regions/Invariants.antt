@@ -9,6 +9,3 @@ use Rattle.cfg_select_nodes.proofs.cases.case_regions.Given as goal
 
 abbrev pub invariant-loop-j : goal.invariant-loop-j
 invariant-loop-j l = (l.j ≤ l.n) × TurnsOn GetsRegion l.n l.j l.initial.w l.w
-
-abbrev pub decreases-loop-j : goal.decreases-loop-j
-decreases-loop-j l = l.n - l.j

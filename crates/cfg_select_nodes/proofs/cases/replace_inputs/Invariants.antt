@@ -10,6 +10,3 @@ use Rattle.cfg_select_nodes.proofs.cases.replace_inputs.Given as goal
 
 abbrev pub invariant-loop-j : goal.invariant-loop-j
 invariant-loop-j l = (l.j ≤ l.n) × (all_replaced l.w (l.n - l.j) l.j ≡ all_replaced l.initial.w (case_total l.initial.w) 0)
-
-abbrev pub decreases-loop-j : goal.decreases-loop-j
-decreases-loop-j l = l.n - l.j

@@ -5,6 +5,3 @@ use Rattle.cfg_select_nodes.proofs.define.case_cells.Given as goal
 
 abbrev pub invariant-loop-j : goal.invariant-loop-j
 invariant-loop-j l = CellsOn l.initial.w l.j l.h.0 l.w
-
-abbrev pub decreases-loop-j : goal.decreases-loop-j
-decreases-loop-j l = l.j

@@ -5,8 +5,7 @@ use Rattle.meaning.specs.Graph.{Graph}
 use Rattle.record.specs.Stands.{OfRecord}
 use Rattle.state_shown.specs.Front.{SameKinds}
 use Rattle.state_shown.specs.laws.FrontKept.{stands_kept, kinds_same, kinds_then}
-use Rattle.state_words.specs.declared.defined.Made.{Made}
-use Rattle.state_words.specs.declared.defined.Made.TheVariants.{Done, Full}
+use Rattle.state_words.specs.Totals.{Made, Done, Full}
 use Rattle.cfg_select_nodes.specs.Turns.{Steps, Turns, turns_over, turn_on, turn_refused, TurnsOn, LeavesRecord, GoesOnBy}
 
 pub begins : (Step : Steps) (n : ℕ) (l₀ : List ℕ) → TurnsOn Step n 0 l₀ l₀

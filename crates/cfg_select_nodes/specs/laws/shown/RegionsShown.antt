@@ -5,7 +5,7 @@ use Rattle.meaning.specs.Graph.{Graph}
 use Rattle.meaning.specs.Runs.{Cases, ∅, case_count}
 use Rattle.nesting.specs.Nesting.{MaybeClaimedRegion, ok, err, NestState, StepAnswer, done, turned_away, follow, give, new_case}
 use Rattle.nesting.specs.Nesting.{case_regions, ClaimedRegion, DeferredEdgeBundleSet}
-use Rattle.state_words.specs.declared.defined.Defined.{Defined}
+use Rattle.state_words.specs.Totals.{Defined, Made, Done, Full}
 use Rattle.state_words.specs.Sections.{word, stored, head, cases}
 use Rattle.state_words.specs.laws.Apart.{section_other}
 use Rattle.state_words.specs.Totals.{Defines, defined, full}
@@ -15,8 +15,6 @@ use Rattle.state_shown.specs.laws.DefinedShown.{done_of, full_of}
 use Rattle.state_shown.specs.laws.Elsewhere.{tables_stay, word_elsewhere}
 use Rattle.state_shown.specs.States.{ShowsCase, shows_ok, shows_nothing, shows_edge, shows_others, no_case}
 use Rattle.state_shown.specs.laws.Steps.{region_defined}
-use Rattle.state_words.specs.declared.defined.Made.{Made}
-use Rattle.state_words.specs.declared.defined.Made.TheVariants.{Done, Full}
 use Rattle.cfg_select_nodes.specs.Turns.{Turns, turns_over, turn_on, turn_refused}
 use Rattle.cfg_select_nodes.specs.Cases.{GetsRegion, has_region, new_region, no_region}
 use Rattle.cfg_select_nodes.specs.laws.shown.Places.{From, first_of, rest_of}

@@ -9,8 +9,8 @@ use Rattle.meaning.specs.Runs.{Nodes, ⟨⟩, ◌▸◌, Cases, case_count}
 use Rattle.nesting.specs.Nesting as nesting
 use Rattle.nesting.specs.Nesting.{MaybeClaimedRegion, LazyCond, NestState, StepAnswer, done, turned_away, join, new_select, DefinedSelect}
 use Rattle.nesting.specs.Nesting.{define_select, scrutinee_value, case_regions, most_nodes}
-use Rattle.state_words.specs.declared.defined.Defined.{Defined}
-use Rattle.state_words.specs.declared.defined.Defined.TheVariants.{Number, Full}
+use Rattle.std.specs.Prelude.{Ok}
+use Rattle.state_words.specs.Totals.{Defined, Made, Done, Full}
 use Rattle.state_words.specs.Sections as sections
 use Rattle.state_words.specs.Sections.{Section, number, section, word, used, head, children, cases, outputs, cells}
 use Rattle.state_words.specs.laws.Apart.{section_other}
@@ -31,8 +31,6 @@ use Rattle.state_shown.specs.laws.CellSteps.{cell_total}
 use Rattle.state_shown.specs.laws.CellSteps.{cell_there, cell_handle, cell_tables}
 use Rattle.state_shown.specs.laws.RegionSteps.{preserves_by, word_concerns, children_set, tables_by}
 use Rattle.cfg_lookups.specs.laws.shown.ConditionsShown.{ShowsValue, materialize_shown}
-use Rattle.state_words.specs.declared.defined.Made.{Made}
-use Rattle.state_words.specs.declared.defined.Made.TheVariants.{Done}
 use Rattle.cfg_select_nodes.specs.declared.define.Scrutinee.{Scrutinee}
 use Rattle.cfg_select_nodes.specs.declared.define.Scrutinee.TheVariants.{Value, Lazy}
 use Rattle.cfg_select_nodes.specs.Turns.{Turns}
@@ -185,7 +183,7 @@ pub record SelectDone (g : Graph) (r : ℕ) (cs : List MaybeClaimedRegion) (pare
 pub data ShowsSelect (g : Graph) (r : ℕ) (cs : List MaybeClaimedRegion) (parent : Nodes) (w w' : List ℕ)
     : Defined → StepAnswer DefinedSelect → Type 0 where
   shows_select : {h : ℕ} {n : DefinedSelect} {s : NestState} → SelectDone g r cs parent w w' h n s
-      → ShowsSelect g r cs parent w w' (Number h) (done n s)
+      → ShowsSelect g r cs parent w w' (Ok h) (done n s)
   shows_no_select : ShowsSelect g r cs parent w w' Full (turned_away too_many 0)
 
 module _ {g : Graph} {r : ℕ} {cs : List MaybeClaimedRegion} {parent : Nodes} {w : List ℕ} {s : NestState} {kind : SelectionKind}
@@ -251,7 +249,7 @@ module _ {g : Graph} {r : ℕ} {cs : List MaybeClaimedRegion} {parent : Nodes} {
         total = omega arith;
       }
 
-  node_changes : {l l' : List ℕ} {n : ℕ} → Defines 1 most_nodes l l' (Number n) → ChangesOnly outputs nodes_at l l'
+  node_changes : {l l' : List ℕ} {n : ℕ} → Defines 1 most_nodes l l' (Ok n) → ChangesOnly outputs nodes_at l l'
   node_changes {l} (defined {n} p h e) = rw e (head_changes outputs nodes_at l (n + 1))
 
   pub select_shown : {w' : List ℕ} {a : Defined} → words.SelectDefined r shape x w w' a

@@ -1,29 +1,36 @@
 use Rattle.cfg_selects.specs.laws.paths.IntoLaws.{into_refused, into_one, into_none, into_all}
+use Rattle.state_words.specs.laws.Filled.{full_of_err}
+use native.Mathlib.Omega.{arith}
 use borrow.Author.Rules.{rules}
 use Rattle.cfg_selects.proofs.into.structurize_select_into.Goals as goal
 
-pub returns-in-Full : goal.returns-in-Full
-returns-in-Full c =
-    into_refused _ _ _ _ c.convergent_case-j.ensures c.if-j-lt8.true
+pub returns-in_err-structurize_select : goal.returns-in_err-structurize_select
+returns-in_err-structurize_select c =
+    let found = rw c.in-Some.is at c.convergent_case.ensures in
+    rw (full_of_err c.from_residual.ensures.0)
+    (into_refused _ _ _ _ found.place found.few
     c.case_at-x.ensures
     c.unclaimed_case.ensures
-    c.set_case.ensures c.structurize_select.ensures c.in-Full.is
+    c.set_case.ensures c.structurize_select.ensures c.in_err-structurize_select.was)
 
-pub returns-then-j-lt8 : goal.returns-then-j-lt8
-returns-then-j-lt8 c =
-    into_one _ _ _ _ c.convergent_case-j.ensures c.if-j-lt8.true
+pub returns-in-Some : goal.returns-in-Some
+returns-in-Some c =
+    let found = rw c.in-Some.is at c.convergent_case.ensures in
+    into_one _ _ _ _ found.place found.few
     c.case_at-x.ensures
     c.unclaimed_case.ensures
     c.set_case.ensures c.structurize_select.ensures
-    c.in_default.is c.append_maybe_claimed_region.ensures
+    c.in_ok-structurize_select.was c.append_maybe_claimed_region.ensures
 
-pub returns-in-Full-structurize_select : goal.returns-in-Full-structurize_select
-returns-in-Full-structurize_select c = into_none _ _ _ _ c.convergent_case-j.ensures
-    c.if-j-lt8.false c.structurize_select-2.ensures
-    c.in-Full-structurize_select.is
+pub returns-in_err-structurize_select-2 : goal.returns-in_err-structurize_select-2
+returns-in_err-structurize_select-2 c =
+    let found = rw c.in_default.is at c.convergent_case.ensures in
+    rw (full_of_err c.from_residual-in_err-structurize_select-2.ensures.0)
+    (into_none _ _ _ _ found.place (omega arith) c.structurize_select-2.ensures
+    c.in_err-structurize_select-2.was)
 
 pub returns : goal.returns
 returns c =
-    into_all _ _ _ _ c.convergent_case-j.ensures
-    c.if-j-lt8.false c.structurize_select-2.ensures
-    c.in_default-structurize_select.is c.take_spare.ensures
+    let found = rw c.in_default.is at c.convergent_case.ensures in
+    into_all _ _ _ _ found.place (omega arith) c.structurize_select-2.ensures
+    c.in_ok-structurize_select-2.was c.take_spare.ensures

@@ -3,7 +3,7 @@ use Rattle.std.specs.Prelude.{Bool, true, false, List, [], ◌∷◌, ℕ, ◌+�
 use Rattle.std.proofs.Common.{arith}
 use Rattle.meaning.specs.Lists.{pick}
 use Rattle.meaning.specs.Graph.{Graph}
-use Rattle.state_words.specs.declared.defined.Defined.{Defined}
+use Rattle.state_words.specs.Totals.{Defined, Made}
 use Rattle.state_words.specs.Sections.{word, stored, stored_all, children, set_starts, set_lengths, cases, bundles}
 use Rattle.state_words.specs.Totals.{edges_word}
 use Rattle.state_regions.specs.RegionTables.{case_total}
@@ -18,7 +18,6 @@ use Rattle.cfg_merging.specs.laws.paths.RewritingLaws.{front_case}
 use Rattle.cfg_merging.specs.Targets.{longer, row_added, edges_added, summarize_bundle, summarize_set, summarize_case, deferred_targets}
 use Rattle.cfg_planning.specs.Planning.{planned, plan_at, plan_bundles}
 use Rattle.cfg_planning.specs.laws.paths.PlanningLaws.{front_plan}
-use Rattle.state_words.specs.declared.defined.Made.{Made}
 use Rattle.cfg_select_nodes.specs.declared.define.Scrutinee.{Scrutinee}
 use Rattle.cfg_select_nodes.specs.laws.paths.TurnsLaws.{front_turns}
 use Rattle.cfg_select_nodes.specs.Cases.{GetsRegion, has_region, new_region, no_region}

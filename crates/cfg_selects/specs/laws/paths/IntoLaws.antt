@@ -2,8 +2,9 @@
 use Rattle.std.specs.Prelude.{◌≡◌, refl, Bool, true, false, ◌||◌, List, ℕ, ◌≤◌, ◌<◌}
 use Rattle.std.proofs.Common.{ap, ◌∙◌, arith}
 use Rattle.record.specs.Stands.{OfRecord}
-use Rattle.state_words.specs.declared.defined.Defined.{Defined}
-use Rattle.state_words.specs.declared.defined.Defined.TheVariants.{Number, Full as Refused}
+use Rattle.std.specs.Prelude.{Ok}
+use Rattle.state_regions.specs.declared.cases.CaseKind.TheVariants.{NothingDeferred}
+use Rattle.state_words.specs.Totals.{Defined, Made, Done, Full}
 use Rattle.state_regions.specs.declared.cases.Case.{Case}
 use Rattle.state_words.specs.Sections.{word, stored, stored_all, set_lengths, cases}
 use Rattle.state_regions.specs.RegionTables.{case_total, case_row, case_words}
@@ -13,8 +14,6 @@ use Rattle.cfg_bundles.specs.EdgesAndCases.{unclaimed_case, Appends}
 use Rattle.cfg_merging.specs.Rewriting.{rewrite_cases}
 use Rattle.cfg_merging.specs.Targets.{deferred_targets}
 use Rattle.cfg_planning.specs.Planning.{planned, plan_bundles}
-use Rattle.state_words.specs.declared.defined.Made.{Made}
-use Rattle.state_words.specs.declared.defined.Made.TheVariants.{Done, Full}
 use Rattle.cfg_select_nodes.specs.declared.define.Scrutinee.{Scrutinee}
 use Rattle.cfg_select_nodes.specs.Cases.{convergent_case, any_non_empty_case, all_replaced}
 use Rattle.cfg_select_nodes.specs.Selects.{SelectDefined}
@@ -23,7 +22,7 @@ use Rattle.cfg_selects.specs.laws.paths.Fronts.{front_cases, front_targets, fron
 use Rattle.cfg_selects.specs.Into.{SelectIf, not_needed, select_refused, select_made, with_targets, with_plan, needs_select}
 use Rattle.cfg_selects.specs.Into.{StructurizesSelect, not_structurized, structurized, spare_taken, set_aside, StructurizesInto}
 use Rattle.cfg_selects.specs.Into.{one_follows, one_refused, all_together, all_refused}
-use Rattle.state_words.specs.Rows.{case_nothing, case_row_at, spare_slot}
+use Rattle.state_words.specs.Rows.{case_row_at, spare_slot}
 
 -- ---- The functions, path by path.
 module _ (needed : Bool) (r shape : ℕ) (x : Scrutinee) (l : List ℕ) where
@@ -31,10 +30,10 @@ module _ (needed : Bool) (r shape : ℕ) (x : Scrutinee) (l : List ℕ) where
   if_not e g s = not_needed e refl
 
   module _ (is : needed ≡ true) {l₁ : List ℕ} {a : Defined} (made : SelectDefined r shape x l l₁ a) where
-    pub if_full : a ≡ Refused → OfRecord l (λ g. SelectIf g needed r shape x l l₁ Full)
+    pub if_full : a ≡ Full → OfRecord l (λ g. SelectIf g needed r shape x l l₁ Full)
     if_full e g s = select_refused is (rw e at made)
 
-    pub if_made : {h : ℕ} → a ≡ Number h → {l' : List ℕ} {b : Made} → OfRecord l₁ (λ g. Emits g h l₁ l' b)
+    pub if_made : {h : ℕ} → a ≡ Ok h → {l' : List ℕ} {b : Made} → OfRecord l₁ (λ g. Emits g h l₁ l' b)
         → OfRecord l (λ g. SelectIf g needed r shape x l l' b)
     if_made e y g s = select_made is (rw e at made) (y g (stands_kept (front_select made) s))
 
@@ -67,7 +66,7 @@ pub spare_by : (l : List ℕ) (r : ℕ) {n : ℕ} {l₁ l₂ : List ℕ} → n �
 spare_by l r a b c = c ∙ rw (b, a)
 
 module _ (r shape : ℕ) (x : Scrutinee) (l : List ℕ) {j : ℕ} (found : j ≡ convergent_case l) where
-  module _ (one : j < 8) {y z : Case} {l₁ l₂ : List ℕ} {a : Made} (row : y ≡ case_row l j) (none : z ≡ unclaimed_case case_nothing 0 0)
+  module _ (one : j < 8) {y z : Case} {l₁ l₂ : List ℕ} {a : Made} (row : y ≡ case_row l j) (none : z ≡ unclaimed_case NothingDeferred 0 0)
       (aside : l₁ ≡ stored_all l cases (case_row_at j) (case_words z))
       (made : OfRecord l₁ (λ g. StructurizesSelect g r shape x l₁ l₂ a)) where
     below : convergent_case l < 8
@@ -77,7 +76,7 @@ module _ (r shape : ℕ) (x : Scrutinee) (l : List ℕ) {j : ℕ} (found : j ≡
     alone g s =
         let e : l₁ ≡ set_aside l (convergent_case l) = aside ∙ rw (none, found) in
         rw e at (made g (rw e (stands_kept (kinds_run l cases (omega arith) (case_row_at (convergent_case l))
-        (case_words (unclaimed_case case_nothing 0 0))) s)))
+        (case_words (unclaimed_case NothingDeferred 0 0))) s)))
 
     pub into_refused : a ≡ Full → OfRecord l (λ g. StructurizesInto g r shape x l l₂ Full)
     into_refused e g s = one_refused below (rw e at (alone g s))

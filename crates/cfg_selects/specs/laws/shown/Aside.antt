@@ -7,19 +7,20 @@ use Rattle.meaning.specs.Lists.{pick, empty, total}
 use Rattle.meaning.specs.Graph.{Graph}
 use Rattle.nesting.specs.Nesting.{MaybeClaimedRegion, ok, err, ClaimedRegion, DeferredTarget, DeferredEdgeBundleSet, NestState, deferred_of}
 use Rattle.nesting.specs.Nesting.{without_convergent}
+use Rattle.state_regions.specs.declared.cases.CaseKind.TheVariants.{NothingDeferred}
 use Rattle.state_words.specs.Sections.{word, used, set_starts}
-use Rattle.state_regions.specs.RegionTables.{case_total, case_words, case_row}
+use Rattle.state_regions.specs.RegionTables.{case_total, case_words, case_kind_of, case_row}
 use Rattle.state_shown.specs.Sets.{ShowsSet, SameBundle}
 use Rattle.state_shown.specs.States.{Slots, ShowsCase, shows_ok, shows_nothing, shows_edge, shows_others, ShowsCases, no_case, HasSlot}
 use Rattle.state_shown.specs.Kept.{PreservesMade}
 use Rattle.state_shown.specs.laws.RegionsKept.{set_stays}
 use Rattle.cfg_bundles.specs.EdgesAndCases.{unclaimed_case}
 use Rattle.cfg_bundles.specs.laws.shown.CaseSteps.{CaseAndSet, OneCase, one_row, other_row, shown_stays, row_word, nothing_row}
-use Rattle.cfg_bundles.specs.laws.shown.Appended.{ShowsAlone, claimed_parts, edge_parts, rest_parts}
+use Rattle.cfg_bundles.specs.laws.shown.Appended.{ShowsAlone, other_kind, claimed_parts, edge_parts, rest_parts}
 use Rattle.cfg_merging.specs.laws.shown.RewritingShown.{cases_after, case_found}
 use Rattle.cfg_merging.specs.laws.shown.TargetsShown.{edges_of_cases, edges_of_set}
 use Rattle.cfg_selects.specs.Into.{set_aside}
-use Rattle.state_words.specs.Rows.{case_input, case_nothing, case_set_length, case_set_start, case_word, kind_claimed, region_kind}
+use Rattle.state_words.specs.Rows.{case_input, case_set_length, case_set_start, case_word, kind_claimed, region_kind}
 use Rattle.state_words.specs.Rows.{case_row_size, spare_slot, case_set_length_field, case_set_start_field}
 
 module _ {g : Graph} (few : length g.regions ≤ 32) {r : ℕ} (here : r < length g.regions) {w : List ℕ} (room : used ≤ length w)
@@ -29,10 +30,10 @@ module _ {g : Graph} (few : length g.regions ≤ 32) {r : ℕ} (here : r < lengt
   at_most = let most = shown.few in omega arith
 
   one : OneCase w (set_aside w j) j
-  one = one_row w j (case_words (unclaimed_case case_nothing 0 0)) (omega arith)
+  one = one_row w j (case_words (unclaimed_case NothingDeferred 0 0)) (omega arith)
 
   pub none_left : case_set_length (set_aside w j) j ≡ 0
-  none_left = row_word w room j at_most (case_words (unclaimed_case case_nothing 0 0)) (omega arith) 5 (omega arith)
+  none_left = row_word w room j at_most (case_words (unclaimed_case NothingDeferred 0 0)) (omega arith) 5 (omega arith)
 
   case_aside : (k : ℕ) → k < length cs → CaseAndSet g (set_aside w j) r k (get_or (set cs j no_case) k no_case)
   case_aside k h =
@@ -103,13 +104,13 @@ parts_then {g} {w} {w'} {r} {j} slots below stay x claimed = go x.case (set_stay
         → ShowsAlone g w' r j (case_row w j) m
     go (shows_ok {c} a b in_graph d e f start size names) s claimed =
         let y = claimed c refl in
-        claimed_parts {c = c} a b in_graph y.1 (stay.same_kinds c.origin ∙ y.0) d e (stay.made_stays.nodes_stay f)
+        claimed_parts {c = c} (ap case_kind_of a) b in_graph y.1 (stay.same_kinds c.origin ∙ y.0) d e (stay.made_stays.nodes_stay f)
         (rw (start ∙ sym (stay.same_starts c.origin)) at s) (λ k h. rw (stay.inputs k h) (names k h))
     go (shows_nothing a b) s claimed =
         let at = slots.starts r below in
         let in_slot = slots.below r below in
         let same = stay.same_starts r in
-        rest_parts (omega arith) (omega arith)
+        rest_parts (other_kind a (omega arith)) (other_kind a (omega arith))
         record {
           size = b;
           few = omega arith;
@@ -117,5 +118,5 @@ parts_then {g} {w} {w'} {r} {j} slots below stay x claimed = go x.case (set_stay
           each = λ i h. absurd (omega arith);
           apart = λ i k p q. absurd (omega arith);
         }
-    go (shows_edge a b d) s claimed = edge_parts a d (rw d at s)
-    go (shows_others a b) s claimed = rest_parts (omega arith) (omega arith) (rw (b ∙ sym (stay.same_starts r)) at s)
+    go (shows_edge a b d) s claimed = edge_parts (ap case_kind_of a) d (rw d at s)
+    go (shows_others a b) s claimed = rest_parts (other_kind a (omega arith)) (other_kind a (omega arith)) (rw (b ∙ sym (stay.same_starts r)) at s)

@@ -10,6 +10,7 @@ use Rattle.nesting.specs.Nesting as nesting
 use Rattle.nesting.specs.Nesting.{MaybeClaimedRegion, ok, ClaimedRegion, DeferredTarget, NestState, StepAnswer, Body}
 use Rattle.nesting.specs.Nesting.{structurize_select_into, structurize_select, convergent_cases, without_convergent}
 use Rattle.nesting.specs.lookups.ChainEnds.{ChainsEnd}
+use Rattle.state_regions.specs.declared.cases.CaseKind.TheVariants.{NothingDeferred}
 use Rattle.state_words.specs.Sections.{word, stored, used, head, kinds, set_starts, set_lengths, children, cases}
 use Rattle.state_words.specs.Sections.{bundles}
 use Rattle.state_sets.specs.SetTables.{swapped}
@@ -33,8 +34,7 @@ use Rattle.cfg_bundles.specs.laws.shown.CaseSteps.{row_word}
 use Rattle.cfg_bundles.specs.laws.shown.Appended.{append_shown}
 use Rattle.cfg_merging.specs.laws.shown.RewritingShown.{NoneReady, cases_after}
 use Rattle.cfg_merging.specs.laws.shown.TargetsShown.{edges_of_cases}
-use Rattle.state_words.specs.declared.defined.Made.{Made}
-use Rattle.state_words.specs.declared.defined.Made.TheVariants.{Done}
+use Rattle.state_words.specs.Totals.{Made, Done}
 use Rattle.cfg_select_nodes.specs.declared.define.Scrutinee.{Scrutinee}
 use Rattle.cfg_select_nodes.specs.Cases.{convergent_case}
 use Rattle.cfg_selects.specs.Into.{set_aside, spare_taken, StructurizesInto, one_follows, one_refused, all_together, all_refused}
@@ -183,7 +183,7 @@ module _ {g : Graph} (valid : Valid g) {r : ℕ} (below : r < length g.regions) 
     same_size = length-set cs j no_case
 
     changes : ChangesOnly cases cases_at w aside
-    changes = run_changes cases cases_at w (omega arith) (case_row_at j) (case_words (unclaimed_case case_nothing 0 0))
+    changes = run_changes cases cases_at w (omega arith) (case_row_at j) (case_words (unclaimed_case NothingDeferred 0 0))
 
     made_stays₀ : PreservesMade g w aside
     made_stays₀ = preserves_by changes (omega arith) g
@@ -237,7 +237,7 @@ module _ {g : Graph} (valid : Valid g) {r : ℕ} (below : r < length g.regions) 
     -- What the select leaves of the case that follows.
     parts_stay : {w₁ : List ℕ} {z : Body} {s₁ : NestState} → Structured g r rest aside w₁ z s₁ → PartsStay g w w₁ j
     parts_stay c =
-        let xs = case_words (unclaimed_case case_nothing 0 0) in
+        let xs = case_words (unclaimed_case NothingDeferred 0 0) in
         let kind : case_kind aside j ≡ case_nothing = row_word w room j (let most = shown.few in omega arith) xs (omega arith) 0
         (omega arith) in
         let same_starts : (q : ℕ) → word aside set_starts q ≡ word w set_starts q =

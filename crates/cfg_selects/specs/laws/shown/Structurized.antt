@@ -17,8 +17,8 @@ use Rattle.nesting.specs.steps.Post.{Post}
 use Rattle.nesting.proofs.steps.Keeps.{select_if_keeps}
 use Rattle.nesting.specs.steps.StatesKept.{KeepsStates}
 use Rattle.nesting.proofs.steps.StatesSteady.{states_kept_steady}
-use Rattle.state_words.specs.declared.defined.Defined.{Defined}
-use Rattle.state_words.specs.declared.defined.Defined.TheVariants.{Number, Full as Refused}
+use Rattle.std.specs.Prelude.{Ok}
+use Rattle.state_words.specs.Totals.{Defined, Made, Done, Full}
 use Rattle.state_words.specs.Sections as sections
 use Rattle.state_words.specs.Sections.{Section, number, section, word, head, kinds, set_starts, set_lengths, children, cases, rewrites}
 use Rattle.state_words.specs.Sections.{bundles}
@@ -38,8 +38,6 @@ use Rattle.cfg_merging.specs.laws.shown.Spare.{spare_there, spare_outside}
 use Rattle.cfg_merging.specs.laws.shown.TargetsShown.{edges_of_cases, deferred_targets_shown}
 use Rattle.cfg_planning.specs.laws.shown.PlanningShown.{plan_bundles_shown}
 use Rattle.cfg_emits.specs.laws.shown.SmallTypes.{SmallTypes, small_types}
-use Rattle.state_words.specs.declared.defined.Made.{Made}
-use Rattle.state_words.specs.declared.defined.Made.TheVariants.{Done}
 use Rattle.cfg_select_nodes.specs.declared.define.Scrutinee.{Scrutinee}
 use Rattle.cfg_selects.specs.Into.{SelectIf, not_needed, select_refused, select_made, with_targets, with_plan, needs_select}
 use Rattle.cfg_selects.specs.Into.{StructurizesSelect, not_structurized, structurized}
@@ -158,13 +156,13 @@ module _ {g : Graph} (few : length g.regions ≤ 32) (small : SmallTypes g) {r b
     with_set shows_refused = shows_refused
 
   after_select : {l w' : List ℕ} {h : ℕ} {a : Made} {b : StepAnswer DefinedSelect}
-      → ShowsSelect g r (cases_after s₀ cs) parent w l (Number h) b → Emits g h l w' a
+      → ShowsSelect g r (cases_after s₀ cs) parent w l (Ok h) b → Emits g h l w' a
       → ShowsMade (SelectChosen g r base parent (length cs) (length ps) w w') a
       (follow b (λ n s₁. follow (emit n ps s₁) (λ d. give (region_body n.children d))))
   after_select {h} (shows_select {n} done₁) emits =
       with_set done₁ (emit_shown few small n h (spared_then done₁) done₁.tables (cell_then done₁) (plan_then done₁) emits)
 
-  no_select : {l : List ℕ} {b : StepAnswer DefinedSelect} → ShowsSelect g r (cases_after s₀ cs) parent w l Refused b
+  no_select : {l : List ℕ} {b : StepAnswer DefinedSelect} → ShowsSelect g r (cases_after s₀ cs) parent w l Full b
       → b ≡ turned_away too_many 0
   no_select shows_no_select = refl
 

@@ -1,5 +1,3 @@
-use lib.ListN.{length}
-use lib.Seq.{take_all}
 use mathlib.Core.Path.{◌≡◌, sym, ap, ◌∙◌}
 use Prim.Native.Nat.{◌+◌, ◌-◌}
 use native.Mathlib.Omega.{arith}
@@ -7,12 +5,11 @@ use Rattle.vectors.specs.Tally.{tally_of, tally_next}
 use Rattle.damage.specs.Answers.{bit_right}
 use Rattle.damage.specs.Changes.{bit_changed}
 use Rattle.damage.proofs.Laws.{listed_right}
-use borrow.Author.Rules.{rules}
 use Rattle.damage.proofs.changes.bits.Goals as goal
 
 pub loop-bit-init : goal.loop-bit-init
 unfolding tally_of
-loop-bit-init c = let none : c.args.from - c.args.from ≡ 0 = omega arith in (omega arith, (c.requires.0, rw none))
+loop-bit-init c = let none : c.args.from - c.args.from ≡ 0 = omega arith in rw none
 
 pub loop-bit-preserved : goal.loop-bit-preserved
 loop-bit-preserved c =
@@ -21,9 +18,7 @@ loop-bit-preserved c =
     let agrees = bit_right a.right_check a.block a.answers.now a.from in
     let back : a.from + (bit - a.from) ≡ bit = omega arith in
     let on : bit - a.from + 1 ≡ bit + 1 - a.from = omega arith in
-    let block = c.change-b.result in
-    let size : 512 ≡ length block = search rules in
-    let store = take_all 512 block (omega arith) ∙ c.change-b.ensures ∙ ap (bit_changed a.right_check a.block) (sym back) in
+    let store = c.change-b.ensures ∙ ap (bit_changed a.right_check a.block) (sym back) in
     let is = listed_right _ a.answers.now (bit - a.from) c.answer_of-a.ensures store c.is_listed.ensures in
-    let next = tally_next agrees (bit - a.from) c.loop-bit.invariant.1.1 is c.told-t.ensures in
-    (omega arith, (omega arith, next ∙ ap (tally_of agrees) on))
+    let next = tally_next agrees (bit - a.from) c.loop-bit.invariant is c.told-t.ensures in
+    next ∙ ap (tally_of agrees) on

@@ -8,7 +8,7 @@ use Rattle.damage.proofs.changes.lengths.Goals as goal
 
 pub loop-n-init : goal.loop-n-init
 unfolding tally_of
-loop-n-init c = (omega arith, refl)
+loop-n-init c = refl
 
 pub loop-n-preserved : goal.loop-n-preserved
 loop-n-preserved c =
@@ -16,4 +16,4 @@ loop-n-preserved c =
     let n = c.loop-n.n in
     let store = take n a.bytes.now in
     let is = listed_right store a.answers.now n c.answer_of-a.ensures refl c.is_listed.ensures in
-    (omega arith, tally_next (length_as_listed a.bytes.now a.answers.now) n c.loop-n.invariant.1 is c.told-t.ensures)
+    tally_next (length_as_listed a.bytes.now a.answers.now) n c.loop-n.invariant is c.told-t.ensures

@@ -7,6 +7,6 @@ pub returns-then-stood_before : goal.returns-then-stood_before
 unfolding words.behind_list
 returns-then-stood_before c = picked _ _ (sym c.stood_before.ensures ∙ c.if-stood_before.true)
 
-pub returns : goal.returns
+pub returns-else-stood_before : goal.returns-else-stood_before
 unfolding words.behind_list
-returns c = c.behind_values.ensures ∙ passed_over _ _ (sym c.stood_before.ensures ∙ c.if-stood_before.false)
+returns-else-stood_before c = c.behind_values.ensures ∙ passed_over _ _ (sym c.stood_before.ensures ∙ c.if-stood_before.false)

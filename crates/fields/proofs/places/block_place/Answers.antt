@@ -9,6 +9,6 @@ returns-then-b-word_at c =
     rw (← c.blocks_place.ensures)
     (c.indexed.ensures ∙ picked _ _ (is_below c.if-b-word_at.true c.word_at.ensures))
 
-pub returns : goal.returns
+pub returns-else-b-word_at : goal.returns-else-b-word_at
 unfolding words.block_place
-returns c = rw (← c.blocks_place.ensures) (passed_over _ _ (not_below c.if-b-word_at.false c.word_at.ensures))
+returns-else-b-word_at c = rw (← c.blocks_place.ensures) (passed_over _ _ (not_below c.if-b-word_at.false c.word_at.ensures))

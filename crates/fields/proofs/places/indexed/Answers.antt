@@ -7,6 +7,6 @@ pub returns-then-r-word_at : goal.returns-then-r-word_at
 unfolding words.indexed
 returns-then-r-word_at c = c.word_at-then-r-word_at.ensures ∙ picked _ _ (is_below c.if-r-word_at.true c.word_at.ensures)
 
-pub returns : goal.returns
+pub returns-else-r-word_at : goal.returns-else-r-word_at
 unfolding words.indexed
-returns c = passed_over _ _ (not_below c.if-r-word_at.false c.word_at.ensures)
+returns-else-r-word_at c = passed_over _ _ (not_below c.if-r-word_at.false c.word_at.ensures)

@@ -10,6 +10,6 @@ returns-then-i-word_at c =
     ∙ ap (words.behind_instructions _ _) c.place.ensures
     ∙ picked _ _ (is_below c.if-i-word_at.true c.word_at.ensures))
 
-pub returns : goal.returns
+pub returns-else-i-word_at : goal.returns-else-i-word_at
 unfolding words.instruction_place
-returns c = rw (← c.block_place-p.ensures) (passed_over _ _ (not_below c.if-i-word_at.false c.word_at.ensures))
+returns-else-i-word_at c = rw (← c.block_place-p.ensures) (passed_over _ _ (not_below c.if-i-word_at.false c.word_at.ensures))

@@ -10,6 +10,6 @@ returns-then-j-word_at c =
     ∙ rw c.word_item.ensures (picked _ _ (is_below c.if-j-word_at.true
     c.word_at.ensures)))
 
-pub returns : goal.returns
+pub returns-else-j-word_at : goal.returns-else-j-word_at
 unfolding words.passed_place
-returns c = rw (← c.targets_place-targets.ensures) (passed_over _ _ (not_below c.if-j-word_at.false c.word_at.ensures))
+returns-else-j-word_at c = rw (← c.targets_place-targets.ensures) (passed_over _ _ (not_below c.if-j-word_at.false c.word_at.ensures))

@@ -9,8 +9,8 @@ returns-then-word_at-eq-TERMINATOR_EXIT c =
     rw (← c.indexed-p.ensures)
     (c.place.ensures ∙ picked _ _ (is_equal c.if-word_at-eq-TERMINATOR_EXIT.true c.word_at.ensures))
 
-pub returns : goal.returns
+pub returns-else-word_at-eq-TERMINATOR_EXIT : goal.returns-else-word_at-eq-TERMINATOR_EXIT
 unfolding words.values_place
-returns c =
+returns-else-word_at-eq-TERMINATOR_EXIT c =
     rw (← c.indexed-p.ensures)
-    (c.place-2.ensures ∙ passed_over _ _ (not_equal c.if-word_at-eq-TERMINATOR_EXIT.false c.word_at.ensures))
+    (c.place-else-word_at-eq-TERMINATOR_EXIT.ensures ∙ passed_over _ _ (not_equal c.if-word_at-eq-TERMINATOR_EXIT.false c.word_at.ensures))

@@ -12,6 +12,6 @@ returns-then-k-word_at c =
       c.word_at-then-k-word_at.ensures,
     ) (picked _ _ (is_below c.if-k-word_at.true c.word_at.ensures))
 
-pub returns : goal.returns
+pub returns-else-k-word_at : goal.returns-else-k-word_at
 unfolding value_item
-returns c = passed_over _ _ (not_below c.if-k-word_at.false c.word_at.ensures)
+returns-else-k-word_at c = passed_over _ _ (not_below c.if-k-word_at.false c.word_at.ensures)

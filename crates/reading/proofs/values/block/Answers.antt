@@ -1,12 +1,8 @@
--- The count is refused, or so many are read.
+use Rattle.std.proofs.Common.{rules}
 use Rattle.format.specs.Read.{block}
-use Rattle.reading.specs.laws.Turns.{counts}
+use Rattle.reading.specs.laws.Turns.{reads_counted}
 use Rattle.reading.proofs.values.block.Goals as goal
 
-pub returns-in-Bad : goal.returns-in-Bad
+pub returns : goal.returns
 unfolding block
-returns-in-Bad c = search counts
-
-pub returns-in-Word : goal.returns-in-Word
-unfolding block
-returns-in-Word c = search counts
+returns c = reads_counted _ _ _ (λ d r h. search rules) _ _ _ _ c.counted.ensures

@@ -1,9 +1,6 @@
--- The count is refused, or so many are read.
-use Rattle.reading.specs.laws.Turns.{counts}
+use Rattle.std.proofs.Common.{rules}
+use Rattle.reading.specs.laws.Turns.{reads_counted}
 use Rattle.reading.proofs.values.counted_values.Goals as goal
 
-pub returns-in-Bad : goal.returns-in-Bad
-returns-in-Bad c = search counts
-
-pub returns-in-Word : goal.returns-in-Word
-returns-in-Word c = search counts
+pub returns : goal.returns
+returns c = reads_counted _ _ _ (λ d r h. search rules) _ _ _ _ c.counted.ensures

@@ -1,20 +1,16 @@
 -- Each answer is a path through the reader `value`.
-use mathlib.Core.Path.{refl, sym, ◌∙◌}
+use Rattle.std.proofs.Common.{sym}
 use Rattle.reading.specs.laws.ValuesForgotten.{value_stop, value_kind, value_rest}
-use Rattle.reading.specs.laws.AnswerSteps.{word_read, word_refused, refuse_step, give_rest}
+use Rattle.reading.specs.laws.AnswerSteps.{exit_is, reads_rest}
 use Rattle.reading.proofs.values.value.Goals as goal
 
-pub returns-then-is_kind : goal.returns-then-is_kind
-returns-then-is_kind c =
-    let a = word_read _ _ _ refl c.word.ensures c.in-Word.is in
-    give_rest _ _ _ _ _ a.same c.named.ensures (value_rest _ _ a.is
-    (sym c.is_kind.ensures ∙ c.if-is_kind.true))
+pub returns-in_err-k : goal.returns-in_err-k
+returns-in_err-k c = rw (exit_is c.from_residual.result c.from_residual.ensures.1) (value_stop _ _ c.in_err-k.ensures)
 
-pub returns-in-Bad : goal.returns-in-Bad
-returns-in-Bad c =
-    refuse_step _ _ _ (value_stop _ _ (word_refused _ _ _ refl c.word.ensures c.in-Bad.is))
+pub returns-then-not-is_kind : goal.returns-then-not-is_kind
+returns-then-not-is_kind c = value_kind _ _ c.in_ok-k.ensures.is (sym c.if-not-is_kind.ensures)
 
-pub returns-else-is_kind : goal.returns-else-is_kind
-returns-else-is_kind c =
-    let a = word_read _ _ _ refl c.word.ensures c.in-Word.is in
-    refuse_step _ _ _ (value_kind _ _ a.is (sym c.is_kind.ensures ∙ c.if-is_kind.false))
+pub returns : goal.returns
+returns c =
+    let a = c.in_ok-k.ensures in
+    reads_rest _ _ _ _ _ a.same (value_rest _ _ a.is (sym c.if-not-is_kind.ensures)) _ c.named.ensures

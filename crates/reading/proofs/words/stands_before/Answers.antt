@@ -1,16 +1,12 @@
-use native.Mathlib.Omega.{arith}
-use mathlib.Core.Path.{refl, sym, ◌∙◌}
-use Rattle.reading.specs.Readings.{stands}
-use Rattle.reading.specs.laws.Targets.{stands_here, stands_not}
+use Rattle.std.specs.Prelude.{◌≡◌, refl, ◌+◌, get_or}
+use Rattle.std.proofs.Common.{rules, arith}
+use borrow.Author.Tests.{tests}
+use Rattle.std.proofs.lemmas.Iterator.{cases_from_any, YieldsList-from_range}
+use Rattle.reading.specs.laws.Targets.{stands_by_any}
 use Rattle.reading.proofs.words.stands_before.Goals as goal
 
-pub loop-i-init : goal.loop-i-init
-unfolding stands
-loop-i-init c = (omega arith, refl)
-
-pub returns-then-t-word_at : goal.returns-then-t-word_at
-returns-then-t-word_at c = stands_here _ _ _ _ _ c.loop-i-test.true (c.if-t-word_at.true ∙ c.word_at.ensures)
-
-pub loop-i-preserved : goal.loop-i-preserved
-loop-i-preserved c =
-    (omega arith, stands_not _ _ _ _ c.loop-i.invariant.1 (λ e. c.if-t-word_at.false (e ∙ sym c.word_at.ensures)))
+pub returns : goal.returns
+returns c =
+    stands_by_any _ _ _ _ _ (cases_from_any _ _ _ (λ i. c.args.t ≡ get_or c.args.w.now (c.args.from + i) 0)
+    (λ i. c.args.t ≡ get_or c.args.w.now (c.args.from + i) 0 → ⊥) c.any.ensures.ran (YieldsList-from_range 0 c.args.n c.args.n refl (omega arith))
+    (λ x q k. search (rules, tests)) (λ x q k. search (rules, tests)))

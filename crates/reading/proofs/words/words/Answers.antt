@@ -1,14 +1,6 @@
-use Rattle.reading.specs.laws.Turns.{turns}
+use Rattle.std.proofs.Common.{rules}
+use Rattle.reading.specs.laws.Turns.{reads_many}
 use Rattle.reading.proofs.words.words.Goals as goal
 
-pub loop-i-init : goal.loop-i-init
-loop-i-init c = search turns
-
-pub returns-in-Bad : goal.returns-in-Bad
-returns-in-Bad c = search turns
-
-pub loop-i-preserved : goal.loop-i-preserved
-loop-i-preserved c = search turns
-
 pub returns : goal.returns
-returns c = search turns
+returns c = reads_many _ _ _ (λ d r h. search rules) _ _ _ c.many.ensures

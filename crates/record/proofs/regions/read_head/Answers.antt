@@ -1,21 +1,18 @@
 -- Each answer is a path through the reader `head`.
-use mathlib.Core.Path.{refl}
-use Rattle.reading.specs.laws.AnswerSteps.{word_read, word_refused, step_read, step_refused, refuse_word, give_word}
+use Rattle.reading.specs.laws.AnswerSteps.{exit_is, step_on}
 use Rattle.record.specs.laws.RegionsForgotten.{head_count_is, head_stop, head_rest}
 use Rattle.record.proofs.regions.read_head.Goals as goal
 
-pub returns-in-Bad : goal.returns-in-Bad
-returns-in-Bad c =
-    refuse_word _ _ _ (head_count_is _ _ (word_refused _ _ _ refl c.within.ensures c.in-Bad.is))
+pub returns-in_err-n : goal.returns-in_err-n
+returns-in_err-n c = rw (exit_is c.from_residual.result c.from_residual.ensures.1) (head_count_is _ _ c.in_err-n.ensures)
 
-pub returns-in-Bad-after_count : goal.returns-in-Bad-after_count
-returns-in-Bad-after_count c =
-    let a = word_read _ _ _ refl c.within.ensures c.in-Word.is in
-    refuse_word _ _ _ (head_stop _ _ a.is (step_refused _ _ _ a.same c.after_count.ensures
-    c.in-Bad-after_count.is))
+pub returns-in_err-e : goal.returns-in_err-e
+returns-in_err-e c =
+    let a = c.in_ok-n.ensures in
+    rw (exit_is c.from_residual-in_err-e.result c.from_residual-in_err-e.ensures.1) (head_stop _ _ a.is (rw a.same at c.in_err-e.ensures))
 
-pub returns-in-At : goal.returns-in-At
-returns-in-At c =
-    let a = word_read _ _ _ refl c.within.ensures c.in-Word.is in
-    let b = step_read _ _ _ a.same c.after_count.ensures c.in-At.is in
-    give_word _ _ _ b.same (head_rest _ _ a.is b.is)
+pub returns : goal.returns
+returns c =
+    let a = c.in_ok-n.ensures in
+    let b = step_on a.same c.in_ok-e.ensures in
+    record { is = head_rest _ _ a.is b.is; same = b.same }

@@ -1,9 +1,10 @@
+use mathlib.Core.Path.{refl}
+use Rattle.state_regions.specs.laws.KindsBack.{state_is, state_not}
 use Rattle.sheet.specs.laws.RegionsLaws.{ready_put, ready_not_put}
 use Rattle.sheet.proofs.leftover.put_if_ready.Goals as goal
 
-pub returns-then-region_state-eq-READY : goal.returns-then-region_state-eq-READY
-returns-then-region_state-eq-READY c = ready_put _ _ c.region_state.ensures
-    c.if-region_state-eq-READY.true c.put_piece.ensures
+pub returns-in-Ready : goal.returns-in-Ready
+returns-in-Ready c = ready_put _ _ refl (state_is c.region_state.ensures c.in-Ready.is) c.put_piece.ensures
 
-pub returns : goal.returns
-returns c = ready_not_put _ _ c.region_state.ensures _ _ c.if-region_state-eq-READY.false
+pub returns-in_default : goal.returns-in_default
+returns-in_default c = ready_not_put _ _ refl _ _ (state_not c.region_state.ensures c.in_default.not-Ready)

@@ -1,11 +1,5 @@
-use mathlib.Core.Path.{◌≡◌}
-use Prim.Native.Nat.{◌≤◌}
-use lib.ListN.{length}
 use Rattle.sheet_nodes.specs.Regions.{SetsFrom}
 use Rattle.sheet.proofs.leftover.put_sets.Given as goal
 
 abbrev pub invariant-loop-r : goal.invariant-loop-r
-invariant-loop-r l = SetsFrom l.w l.initial.r l.r l.initial.out l.initial.e l.out l.e × (l.r ≤ l.initial.r) × (length l.out ≡ length l.initial.out)
-
-abbrev pub decreases-loop-r : goal.decreases-loop-r
-decreases-loop-r l = l.r
+invariant-loop-r l = SetsFrom l.w l.initial.r l.r l.initial.out l.initial.e l.out l.e

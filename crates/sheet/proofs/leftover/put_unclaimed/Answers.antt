@@ -1,20 +1,12 @@
-use borrow.Author.Rules.{rules}
-use mathlib.Core.Path.{refl}
-use native.Mathlib.Omega.{arith}
 use Rattle.sheet.specs.laws.RegionsLaws.{lines_start, lines_turn, lines_end}
 use Rattle.sheet.proofs.leftover.put_unclaimed.Goals as goal
 
 pub loop-r-init : goal.loop-r-init
-loop-r-init c = (lines_start _ c.region_count-r.ensures _ _, omega arith, refl)
+loop-r-init c = lines_start _ c.region_count-r.ensures _ _
 
 pub loop-r-preserved : goal.loop-r-preserved
-loop-r-preserved c = (
-  lines_turn _ c.region_count-r.ensures _
-      c.loop-r-test.true c.loop-r.invariant.1
-      c.loop-r.invariant.0 c.put_if_ready-e.ensures,
-  omega arith,
-  search rules,
-)
+loop-r-preserved c =
+    lines_turn _ c.region_count-r.ensures _ c.loop-r-test.true c.loop-r.auto.r c.loop-r.invariant c.put_if_ready-e.ensures
 
 pub returns : goal.returns
-returns c = lines_end _ c.region_count-r.ensures _ c.loop-r-test.false c.loop-r.invariant.0
+returns c = lines_end _ c.region_count-r.ensures _ c.loop-r-test.false c.loop-r.invariant

@@ -1,6 +1,5 @@
 use mathlib.Core.Path.{sym}
 use Prim.Native.Nat.{◌+◌}
-use native.Mathlib.Omega.{arith}
 use lib.ListN.{get_or}
 use Rattle.format.specs.References.{no_instr}
 use Rattle.fields.specs.ByNumber.{block_of}
@@ -8,22 +7,17 @@ use Rattle.sheet_words.specs.laws.PutInFrontLaws.{puts_as, puts_then}
 use Rattle.sheet_words.specs.laws.Rows.{run_start, run_turn}
 use Rattle.sheet_words.specs.laws.PartLaws.{puts_from}
 use Rattle.sheet_blocks.specs.BlockParts.{item_part, block_listed}
-use borrow.Author.Rules.{rules}
 use Rattle.sheet_blocks.proofs.blocks.put_block.Goals as goal
 
 pub loop-i-init : goal.loop-i-init
-loop-i-init c = (search rules, search rules, λ g s x. run_start _ _ _ _)
+loop-i-init c = λ g s x. run_start _ _ _ _
 
 pub loop-i-preserved : goal.loop-i-preserved
-loop-i-preserved c = (
-  omega arith,
-  search rules,
-  λ g s x.
-      let is = block_of g c.args.r c.args.b in
-      let first = c.instructions_before-first.result in
-      run_turn (λ j. item_part s c.args.r (first + j) (get_or is j no_instr)) _ _ c.loop-i-test.true
-      c.loop-i.invariant.0 (c.loop-i.invariant.2 g s x) (c.put_item-front.ensures g s x),
-)
+loop-i-preserved c = λ g s x.
+    let is = block_of g c.args.r c.args.b in
+    let first = c.instructions_before-first.result in
+    run_turn (λ j. item_part s c.args.r (first + j) (get_or is j no_instr)) _ _ c.loop-i-test.true
+    c.loop-i.auto.i (c.loop-i.invariant g s x) (rw c.from.ensures at (c.put_item-front.ensures g s x))
 
 pub returns : goal.returns
 returns c = λ g s x.
@@ -31,7 +25,7 @@ returns c = λ g s x.
     let is = block_of g c.args.r c.args.b in
     let size = c.block_length-n.ensures g stands in
     let items = puts_from (item_part s c.args.r) no_instr c.instructions_before-first.result is size
-    c.loop-i-test.false (c.loop-i.invariant.2 g s x) in
+    c.loop-i-test.false (c.loop-i.invariant g s x) in
     puts_as
     (puts_then (puts_then (puts_then items (rw size at c.put_word-items.ensures)) c.put-number.ensures)
     c.put_word.ensures)

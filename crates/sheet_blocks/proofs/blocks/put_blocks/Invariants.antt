@@ -1,6 +1,4 @@
-use mathlib.Core.Path.{◌≡◌}
-use Prim.Native.Nat.{◌≤◌, ◌-◌}
-use lib.ListN.{length}
+use Prim.Native.Nat.{◌-◌}
 use Rattle.meaning.specs.Graph.{region}
 use Rattle.sheet_words.specs.PutInFront.{Puts}
 use Rattle.sheet_words.specs.Parts.{OfState}
@@ -10,8 +8,4 @@ use Rattle.sheet_blocks.proofs.blocks.put_blocks.Given as goal
 
 abbrev pub invariant-loop-b : goal.invariant-loop-b
 invariant-loop-b l =
-    (l.b ≤ l.n) × (length l.out ≡ length l.initial.out)
-    × OfState l.w (λ g s. Puts l.initial.out l.initial.front (run (block_part s l.first l.r (region g l.r).blocks) l.b (l.n - l.b)) l.out l.front)
-
-abbrev pub decreases-loop-b : goal.decreases-loop-b
-decreases-loop-b l = l.b
+    OfState l.w (λ g s. Puts l.initial.out l.initial.front (run (block_part s l.first l.r (region g l.r).blocks) l.b (l.n - l.b)) l.out l.front)

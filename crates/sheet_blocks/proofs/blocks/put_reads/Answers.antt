@@ -1,32 +1,6 @@
-use mathlib.Core.Path.{sym}
-use native.Mathlib.Omega.{arith}
-use lib.ListN.{get_or}
-use Rattle.meaning.specs.Graph.{no_value}
-use Rattle.fields.specs.ByNumber.{instr_of}
-use Rattle.sheet_words.specs.laws.PutInFrontLaws.{puts_as}
-use Rattle.sheet_words.specs.Parts.{value_part}
-use Rattle.sheet_words.specs.laws.Rows.{run_start, run_turn}
-use Rattle.sheet_words.specs.laws.PartLaws.{puts_listed, values_counted}
 use borrow.Author.Rules.{rules}
 use Rattle.sheet_blocks.proofs.blocks.put_reads.Goals as goal
 
-pub loop-k-init : goal.loop-k-init
-loop-k-init c = (search rules, search rules, λ g s x size. run_start _ _ _ _)
-
-pub loop-k-preserved : goal.loop-k-preserved
-loop-k-preserved c = (
-  omega arith,
-  search rules,
-  λ g s x size.
-      let reads = (instr_of g c.args.r c.args.b c.args.i).reads in
-      run_turn (λ j. value_part s (get_or reads j no_value)) _ _ c.loop-k-test.true
-      c.loop-k.invariant.0 (c.loop-k.invariant.2 g s x size) (c.put_read-front.ensures g s x (omega arith)),
-)
-
 pub returns : goal.returns
 returns c = λ g s x size.
-    let reads = (instr_of g c.args.r c.args.b c.args.i).reads in
-    puts_as
-    (puts_listed (value_part s) no_value reads size c.loop-k-test.false (c.loop-k.invariant.2 g s x size)
-    c.put_word.ensures)
-    (sym (values_counted s reads))
+    c.put_values.ensures g s x _ size (λ k v h called. search rules)

@@ -1,7 +1,5 @@
 -- The loop's invariant: the lines from bundle i on are put.
-use mathlib.Core.Path.{◌≡◌}
-use Prim.Native.Nat.{◌-◌, ◌≤◌}
-use lib.ListN.{length}
+use Prim.Native.Nat.{◌-◌}
 use Rattle.nesting.specs.Nesting.{DeferredEdgeBundleSet}
 use Rattle.state_shown.specs.States.{ShowsOwnSet}
 use Rattle.sheet_words.specs.PutInFront.{Puts}
@@ -13,8 +11,3 @@ use Rattle.sheet_defers.proofs.lines.put_set.Given as goal
 abbrev pub invariant-loop-i : goal.invariant-loop-i
 invariant-loop-i l =
     OfState l.w (λ g s. (d : DeferredEdgeBundleSet) → ShowsOwnSet g l.w l.r d → Puts l.initial.out l.initial.to (run (defer_at s l.r d) l.i (l.n - l.i)) l.out l.to)
-    × (l.i ≤ l.n)
-    × (length l.out ≡ length l.initial.out)
-
-abbrev pub decreases-loop-i : goal.decreases-loop-i
-decreases-loop-i l = l.i

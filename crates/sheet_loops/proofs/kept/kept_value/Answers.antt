@@ -5,7 +5,7 @@ pub returns-then-back : goal.returns-then-back
 unfolding kept_word
 returns-then-back c = rw c.if-back.true c.kept_back.ensures
 
-pub returns : goal.returns
+pub returns-else-back : goal.returns-else-back
 unfolding kept_word
-returns c = rw (c.if-back.false, ← c.kept_input.ensures, ← c.kept_wrapper.ensures)
+returns-else-back c = rw (c.if-back.false, ← c.kept_input.ensures, ← c.kept_wrapper.ensures)
     c.input.ensures

@@ -1,6 +1,5 @@
 use mathlib.Core.Path.{refl}
 use native.Mathlib.Omega.{arith}
-use borrow.Author.Rules.{rules}
 use Rattle.sheet_words.specs.laws.PutInFrontLaws.{puts_as}
 use Rattle.state_lists.specs.laws.CellByCellLaws.{named_below}
 use Rattle.sheet_regions.specs.Kept.{kept_cells, values_are}
@@ -9,7 +8,7 @@ use Rattle.sheet_regions.specs.laws.KeptLaws.{cells_start}
 use Rattle.sheet_loops.proofs.kept.put_kept_values.Goals as goal
 
 pub loop-h-init : goal.loop-h-init
-loop-h-init c = (λ g s x. cells_start _ _ _ _ _, omega arith, refl)
+loop-h-init c = (λ g s x. cells_start _ _ _ _ _, omega arith)
 
 pub loop-h-smaller : goal.loop-h-smaller
 loop-h-smaller c =
@@ -20,7 +19,6 @@ loop-h-preserved c = (
   λ g s x. cells_turn _ _ _ _ _ (c.loop-h.invariant.0 g s x) c.loop-h-test.true
       (rw c.kept_value.ensures at (c.put_value-to.ensures g s x)) c.cell_before-h.ensures refl,
   omega (arith, named_below _ c.cell_before-h.ensures c.loop-h-test.true),
-  search rules,
 )
 
 pub returns : goal.returns

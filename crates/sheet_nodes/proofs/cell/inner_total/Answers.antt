@@ -1,16 +1,17 @@
+use Rattle.state_nodes.specs.laws.CellTagsBack.{tag_is, tag_not}
+use mathlib.Core.Path.{refl}
+use borrow.Author.Rules.{rules}
 use Rattle.sheet_nodes.specs.laws.InsideLaws.{total_cases, total_joined, total_body, total_none}
 use Rattle.sheet_nodes.proofs.cell.inner_total.Goals as goal
 
-pub returns-then-tag-eq-SELECT : goal.returns-then-tag-eq-SELECT
-returns-then-tag-eq-SELECT c = total_cases _ _ c.cell_tag-tag.ensures c.if-tag-eq-SELECT.true
-    c.select_cases.ensures c.case_total.ensures
+pub returns-in-Select : goal.returns-in-Select
+returns-in-Select c = total_cases _ _ refl (tag_is c.cell_tag.ensures c.in-Select.is) c.select_cases.ensures c.case_total.ensures
 
-pub returns-then-tag-eq-JOIN : goal.returns-then-tag-eq-JOIN
-returns-then-tag-eq-JOIN c = total_joined _ _ c.cell_tag-tag.ensures c.if-tag-eq-JOIN.true
+pub returns-in-Join : goal.returns-in-Join
+returns-in-Join c = total_joined _ _ refl (tag_is c.cell_tag.ensures c.in-Join.is)
 
-pub returns-then-tag-eq-LOOP : goal.returns-then-tag-eq-LOOP
-returns-then-tag-eq-LOOP c = total_body _ _ c.cell_tag-tag.ensures c.if-tag-eq-LOOP.true
+pub returns-in-Loop : goal.returns-in-Loop
+returns-in-Loop c = total_body _ _ refl (tag_is c.cell_tag.ensures c.in-Loop.is)
 
-pub returns : goal.returns
-returns c = total_none _ _ c.cell_tag-tag.ensures c.if-tag-eq-SELECT.false c.if-tag-eq-JOIN.false
-    c.if-tag-eq-LOOP.false
+pub returns-in_default : goal.returns-in_default
+returns-in_default c = total_none _ _ refl (tag_not c.cell_tag.ensures (search rules)) (tag_not c.cell_tag.ensures (search rules)) (tag_not c.cell_tag.ensures (search rules))

@@ -1,7 +1,6 @@
-use mathlib.Core.Path.{◌≡◌}
 use mathlib.Core.List.{[], ◌∷◌}
-use Prim.Native.Nat.{◌≤◌, ◌-◌}
-use lib.ListN.{length, get_or}
+use Prim.Native.Nat.{◌-◌}
+use lib.ListN.{get_or}
 use Rattle.meaning.specs.Graph.{region}
 use Rattle.nesting.specs.Nesting.{plain}
 use Rattle.record.specs.Stands.{OfRecord}
@@ -11,8 +10,4 @@ use Rattle.sheet_regions.proofs.types.put_all_types.Given as goal
 
 abbrev pub invariant-loop-k : goal.invariant-loop-k
 invariant-loop-k l =
-    (l.k ≤ l.n) × (length l.out ≡ length l.initial.out)
-    × OfRecord l.w (λ g. Puts l.initial.out l.initial.front (run (λ j. plain (get_or (region g l.r).inputs j 0 ∷ [])) l.k (l.n - l.k)) l.out l.front)
-
-abbrev pub decreases-loop-k : goal.decreases-loop-k
-decreases-loop-k l = l.k
+    OfRecord l.w (λ g. Puts l.initial.out l.initial.front (run (λ j. plain (get_or (region g l.r).inputs j 0 ∷ [])) l.k (l.n - l.k)) l.out l.front)

@@ -6,6 +6,6 @@ pub returns-then-o-output_count : goal.returns-then-o-output_count
 unfolding node_of
 returns-then-o-output_count c = rw (is_below c.if-o-output_count.true c.output_count.ensures) c.output_node.ensures
 
-pub returns : goal.returns
+pub returns-else-o-output_count : goal.returns-else-o-output_count
 unfolding node_of
-returns c = rw (not_below c.if-o-output_count.false c.output_count.ensures)
+returns-else-o-output_count c = rw (not_below c.if-o-output_count.false c.output_count.ensures)

@@ -7,7 +7,7 @@ use Rattle.sheet_words.proofs.value.place_among.Goals.{then-output_node-node, el
 
 pub loop-i-init : goal.loop-i-init
 unfolding node_times
-loop-i-init c = (refl, omega arith, omega arith)
+loop-i-init c = (refl, omega arith)
 
 pub loop-i-preserved : goal.loop-i-preserved
 loop-i-preserved c =
@@ -19,7 +19,6 @@ loop-i-preserved c =
         | else-output_node-node w ↦
             no_more args.w.now args.node c.loop-i.i c.loop-i.invariant.0 read w.if-output_node-node.false w.sum-is
       ],
-      omega arith,
       elim c.if-output_node-node.branch [
         | then-output_node-node w ↦ omega (arith, w.sum-is)
         | else-output_node-node w ↦ omega (arith, w.sum-is)

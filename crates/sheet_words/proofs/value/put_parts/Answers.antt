@@ -8,8 +8,8 @@ returns-then-p-eq3 c =
     rw (← c.parts_of-p.ensures, eq-eqb c.parts_of-p.result.kind 3 c.if-p-eq3.true)
     c.put_output.ensures
 
-pub returns : goal.returns
+pub returns-else-p-eq3 : goal.returns-else-p-eq3
 unfolding value_words
-returns c =
+returns-else-p-eq3 c =
     rw (← c.parts_of-p.ensures, ne_eqb c.parts_of-p.result.kind 3 c.if-p-eq3.false)
     c.put_three.ensures

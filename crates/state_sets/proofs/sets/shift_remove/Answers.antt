@@ -1,7 +1,6 @@
 use Rattle.state_sets.specs.SetTables.{shift_removed}
 use mathlib.Core.Path.{◌∙◌}
 use Rattle.meaning.specs.facts.Tests.{picked, passed_over, is_equal, not_equal}
-use borrow.Author.Rules.{rules}
 use Rattle.state_sets.proofs.sets.shift_remove.Goals as goal
 
 pub returns-then-n-eq0 : goal.returns-then-n-eq0

@@ -3,7 +3,7 @@ use Rattle.store.specs.laws.Writes.{weight_is, low_weight, high_weight}
 use Rattle.store.proofs.write.weight.Goals as goal
 
 pub returns : goal.returns
-returns c = (
+returns c = rw (c.from-low.ensures, c.from-high.ensures) (
   weight_is c.args.word c.args.place,
   omega (
     arith,

@@ -11,7 +11,4 @@ abbrev pub decreases-put_list : goal.decreases-put_list
 decreases-put_list l = 2 * (length l.words.now + 1 - l.c.at)
 
 abbrev pub invariant-put_list-loop-k : goal.invariant-put_list-loop-k
-invariant-put_list-loop-k l = Turned l.kind l.words l.at l.n l.initial.text l.initial.d l.text l.d l.k
-
-abbrev pub decreases-put_list-loop-k : goal.decreases-put_list-loop-k
-decreases-put_list-loop-k l = l.n - l.k
+invariant-put_list-loop-k l = Turned l.kind l.words l.fn.c l.n l.initial.text l.initial.d l.text l.d l._k

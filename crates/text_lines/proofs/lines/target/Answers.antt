@@ -1,23 +1,24 @@
 use mathlib.Core.Path.{refl, sym, ◌∙◌}
 use Rattle.nesting.specs.decoding.Decode.{next_word}
 use Rattle.text_cursor.specs.Lines.{shown}
-use Rattle.text_cursor.specs.laws.WordsToTextSteps.{puts_next, puts_ended, puts_there}
+use Rattle.text_cursor.specs.laws.WordsToTextSteps.{puts_word, puts_ended, puts_there}
 use Rattle.text_lines.specs.laws.LineTexts.{number_target}
 use Rattle.meaning.specs.facts.Elements.{first_dropped}
 use Rattle.text_lines.proofs.lines.target.Goals as goal
 
-pub returns-then-words-at : goal.returns-then-words-at
+pub returns-in_default : goal.returns-in_default
 unfolding shown next_word
-returns-then-words-at c = puts_ended refl c.if-words-at.true c.stop.ensures
+returns-in_default c = puts_ended refl c.in_default.ensures c.stop.ensures
 
-pub returns-then-words-at-eq-RETURN_WORD : goal.returns-then-words-at-eq-RETURN_WORD
+pub returns-then-region-eq-RETURN_WORD : goal.returns-then-region-eq-RETURN_WORD
 unfolding shown next_word
-returns-then-words-at-eq-RETURN_WORD c =
-    puts_next c.if-words-at.false
-    (λ rest. rw c.if-words-at-eq-RETURN_WORD.true refl) (c.say.ensures _)
+returns-then-region-eq-RETURN_WORD c =
+    puts_word c.in-Some.ensures (λ rest. rw c.if-region-eq-RETURN_WORD.true refl) (c.say.ensures _)
 
-pub returns : goal.returns
-returns c =
+pub returns-else-region-eq-RETURN_WORD : goal.returns-else-region-eq-RETURN_WORD
+returns-else-region-eq-RETURN_WORD c =
     let a = c.args in
-    puts_there (λ l. number_target _ λ e. c.if-words-at-eq-RETURN_WORD.false (sym (first_dropped a.words.now a.c.at 0) ∙ e))
+    puts_there
+    (λ l. number_target _ λ e. c.if-region-eq-RETURN_WORD.false
+    (c.in-Some.ensures.word ∙ sym (first_dropped a.words.now a.c.at 0) ∙ e))
     c.number.ensures

@@ -1,4 +1,4 @@
-use mathlib.Core.Path.{ap, ◌∙◌}
+use mathlib.Core.Path.{ap}
 use Prim.Native.Nat.{◌+◌}
 use native.Mathlib.Omega.{arith}
 use lib.ListN.{drop}
@@ -12,19 +12,13 @@ pub loop-b-preserved : goal.loop-b-preserved
 loop-b-preserved c =
     let l = c.loop-b in (
       omega arith,
-      (
-        omega arith,
-        (
-          c.put_block-place.auto.out ∙ l.invariant.1.1.0,
-          λ g s q w.
-              let r = c.args.r in
-              let bs = (region g r).blocks in
-              let size = c.block_count-n.ensures g s in
-              l.invariant.1.1.1 g s q
-              (wrote_block r l.k bs l.b (omega arith) (c.put_block-place.ensures g s)
-              (of_text (ap (λ n. blocks_text r (l.k + n) (drop (l.b + 1) bs)) (c.block_length.ensures g s)) w)),
-        ),
-      ),
+      λ g s q w.
+          let r = c.args.r in
+          let bs = (region g r).blocks in
+          let size = c.block_count-n.ensures g s in
+          l.invariant.1 g s q
+          (wrote_block r l.k bs l.b (omega arith) (c.put_block-place.ensures g s)
+          (of_text (ap (λ n. blocks_text r (l.k + n) (drop (l.b + 1) bs)) (c.block_length.ensures g s)) w)),
     )
 
 pub returns : goal.returns
@@ -32,4 +26,4 @@ returns c = λ g s.
     let r = c.args.r in
     let bs = (region g r).blocks in
     let size = c.block_count-n.ensures g s in
-    c.loop-b.invariant.1.1.1 g s _ (wrote_blocks r c.loop-b.k bs c.loop-b.b (omega arith))
+    c.loop-b.invariant.1 g s _ (wrote_blocks r c.loop-b.k bs c.loop-b.b (omega arith))

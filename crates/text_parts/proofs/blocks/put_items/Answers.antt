@@ -24,21 +24,16 @@ returns-then-n-eq0 c =
 pub loop-i-preserved : goal.loop-i-preserved
 loop-i-preserved c =
     let a = c.args in
-    let l = c.loop-i in (
-      omega arith,
-      (
-        c.put_item-place-in-loop-i.auto.out ∙ c.put_byte-place.auto.out ∙ l.invariant.1.0,
-        λ g s q w.
-            let is = get_or (region g a.r).blocks a.b [] in
-            let size = c.block_length-n.ensures g s in
-            l.invariant.1.1 g s q
-            (wrote_next (other (λ (t : Text). t)) [] (items_text a.r a.k is) l.i
-            (omega (arith, items_text_length a.r a.k is))
-            (c.put_byte-place.ensures ▸ of_text
-            (items_at a.r a.k is l.i (omega arith)) (c.put_item-place-in-loop-i.ensures g s))
-            w),
-      ),
-    )
+    let l = c.loop-i in
+    λ g s q w.
+    let is = get_or (region g a.r).blocks a.b [] in
+    let size = c.block_length-n.ensures g s in
+    l.invariant g s q
+    (wrote_next (other (λ (t : Text). t)) [] (items_text a.r a.k is) l.i
+    (omega (arith, items_text_length a.r a.k is))
+    (c.put_byte-place.ensures ▸ of_text
+    (items_at a.r a.k is l.i (omega arith)) (c.put_item-place-in-loop-i.ensures g s))
+    w)
 
 pub returns : goal.returns
 returns c =
@@ -51,5 +46,5 @@ returns c =
     wrote_listed (λ t. t) [] (items_text a.r a.k is) (omega (arith, items_text_length a.r a.k is))
     (of_text (ap (λ n. item_listing a.r n (get_or is 0 no_instr)) (sym (add-zero a.k)) ∙ first)
     (c.put_item-place.ensures g s))
-    (l.invariant.1.1 g s _ (wrote_all (other (λ (t : Text). t)) (items_text a.r a.k is) l.i
+    (l.invariant g s _ (wrote_all (other (λ (t : Text). t)) (items_text a.r a.k is) l.i
     (omega (arith, items_text_length a.r a.k is))))

@@ -1,7 +1,5 @@
 use mathlib.Core.List.{[]}
-use mathlib.Core.Path.{◌≡◌}
-use Prim.Native.Nat.{◌≤◌, ◌-◌}
-use lib.ListN.{length, get_or, drop}
+use lib.ListN.{get_or, drop}
 use Rattle.meaning.specs.Graph.{region}
 use Rattle.meaning.specs.Text.{Text}
 use Rattle.record.specs.Stands.{OfRecord}
@@ -13,9 +11,6 @@ use Rattle.text_parts.proofs.blocks.put_items.Given as goal
 
 abbrev pub invariant-loop-i : goal.invariant-loop-i
 invariant-loop-i l =
-    (l.i ≤ l.n) × ((length l.out ≡ length l.initial.out) × OfRecord l.w (λ g. (q : Buffer)
+    OfRecord l.w (λ g. (q : Buffer)
     → Wrote (buffer l.out l.place) (text_of_each (other (λ (t : Text). t)) (drop l.i (items_text l.r l.k (get_or (region g l.r).blocks l.b [])))) q
-    → Wrote (buffer l.initial.out l.initial.place) (text_of_each (other (λ (t : Text). t)) (drop 1 (items_text l.r l.k (get_or (region g l.r).blocks l.b [])))) q))
-
-abbrev pub decreases-loop-i : goal.decreases-loop-i
-decreases-loop-i l = l.n - l.i
+    → Wrote (buffer l.initial.out l.initial.place) (text_of_each (other (λ (t : Text). t)) (drop 1 (items_text l.r l.k (get_or (region g l.r).blocks l.b [])))) q)

@@ -15,20 +15,14 @@ returns-then-n-eq0 c =
     c.put_byte.ensures
 
 pub loop-k-preserved : goal.loop-k-preserved
-loop-k-preserved c = (
-  omega arith,
-  (
-    c.put_labeled-place.auto.out ∙ c.loop-k.invariant.1.0,
-    λ g s q w.
-        let xs = numbers_of g c.args.l in
-        c.loop-k.invariant.1.1 g s q
-        (wrote_next (other decimal) 0 xs c.loop-k.k
-        (omega (arith, c.number_count-n.ensures g s))
-        (of_text (ap (λ n. ascii "," ++ decimal n) (c.number_item-in-loop-k.ensures g s))
-        c.put_labeled-place.ensures)
-        w),
-  ),
-)
+loop-k-preserved c = λ g s q w.
+    let xs = numbers_of g c.args.l in
+    c.loop-k.invariant g s q
+    (wrote_next (other decimal) 0 xs c.loop-k.k
+    (omega (arith, c.number_count-n.ensures g s))
+    (of_text (ap (λ n. ascii "," ++ decimal n) (c.number_item-in-loop-k.ensures g s))
+    c.put_labeled-place.ensures)
+    w)
 
 pub returns : goal.returns
 unfolding numbers_text
@@ -39,4 +33,4 @@ returns c =
     wrote_listed decimal 0 xs (omega arith)
     (of_text (ap decimal (c.number_item.ensures g s))
     c.put_number-place.ensures)
-    (c.loop-k.invariant.1.1 g s _ (wrote_all (other decimal) xs c.loop-k.k (omega arith)))
+    (c.loop-k.invariant g s _ (wrote_all (other decimal) xs c.loop-k.k (omega arith)))

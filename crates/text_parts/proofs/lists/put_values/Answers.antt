@@ -14,22 +14,15 @@ returns-then-n-eq0 c =
     c.put_byte.ensures
 
 pub loop-k-preserved : goal.loop-k-preserved
-loop-k-preserved c = (
-  omega arith,
-  (
-    c.put_value-place-in-loop-k.auto.out ∙ c.put_byte-place.auto.out
-        ∙ c.loop-k.invariant.1.0,
-    λ g s q w.
-        let xs = list_of g c.args.l in
-        c.loop-k.invariant.1.1 g s q
-        (wrote_next (other value_listing) no_value xs
-        c.loop-k.k
-        (omega (arith, c.value_count-n.ensures g s))
-        (c.put_byte-place.ensures ▸ of_text
-        (ap value_listing (c.value_item-in-loop-k.ensures g s)) c.put_value-place-in-loop-k.ensures)
-        w),
-  ),
-)
+loop-k-preserved c = λ g s q w.
+    let xs = list_of g c.args.l in
+    c.loop-k.invariant g s q
+    (wrote_next (other value_listing) no_value xs
+    c.loop-k.k
+    (omega (arith, c.value_count-n.ensures g s))
+    (c.put_byte-place.ensures ▸ of_text
+    (ap value_listing (c.value_item-in-loop-k.ensures g s)) c.put_value-place-in-loop-k.ensures)
+    w)
 
 pub returns : goal.returns
 unfolding values_text
@@ -40,4 +33,4 @@ returns c =
     wrote_listed value_listing no_value xs (omega arith)
     (of_text (ap value_listing (c.value_item.ensures g s))
     c.put_value-place.ensures)
-    (c.loop-k.invariant.1.1 g s _ (wrote_all (other value_listing) xs c.loop-k.k (omega arith)))
+    (c.loop-k.invariant g s _ (wrote_all (other value_listing) xs c.loop-k.k (omega arith)))

@@ -1,6 +1,3 @@
-use mathlib.Core.Path.{◌≡◌}
-use Prim.Native.Nat.{◌≤◌, ◌-◌}
-use lib.ListN.{length}
 use Rattle.meaning.specs.Graph.{region, edges_of}
 use Rattle.record.specs.Stands.{OfRecord}
 use Rattle.text.specs.Buffer.{Buffer, buffer, Wrote}
@@ -9,9 +6,6 @@ use Rattle.text_record.proofs.regions.put_passes.Given as goal
 
 abbrev pub invariant-loop-j : goal.invariant-loop-j
 invariant-loop-j l =
-    (l.j ≤ l.n) × ((length l.out ≡ length l.initial.out) × OfRecord l.w (λ g. (q : Buffer)
+    OfRecord l.w (λ g. (q : Buffer)
     → Wrote (buffer l.out l.place) (passes_from (edges_of (region g l.r).terminator) l.j) q
-    → Wrote (buffer l.initial.out l.initial.place) (passes_from (edges_of (region g l.r).terminator) 0) q))
-
-abbrev pub decreases-loop-j : goal.decreases-loop-j
-decreases-loop-j l = l.n - l.j
+    → Wrote (buffer l.initial.out l.initial.place) (passes_from (edges_of (region g l.r).terminator) 0) q)

@@ -1,6 +1,4 @@
-use mathlib.Core.Path.{◌≡◌}
-use Prim.Native.Nat.{◌≤◌, ◌-◌}
-use lib.ListN.{length, drop}
+use lib.ListN.{drop}
 use Rattle.record.specs.Stands.{OfRecord}
 use Rattle.text.specs.Buffer.{Buffer, buffer, Wrote}
 use Rattle.text_parts.specs.Listing.{regions_text}
@@ -8,8 +6,5 @@ use Rattle.text_record.proofs.regions.put_regions.Given as goal
 
 abbrev pub invariant-loop-r : goal.invariant-loop-r
 invariant-loop-r l =
-    (l.r ≤ l.n) × ((length l.out ≡ length l.initial.out) × OfRecord l.w (λ g. (q : Buffer)
-    → Wrote (buffer l.out l.place) (regions_text l.r (drop l.r g.regions)) q → Wrote (buffer l.initial.out l.initial.place) (regions_text 0 g.regions) q))
-
-abbrev pub decreases-loop-r : goal.decreases-loop-r
-decreases-loop-r l = l.n - l.r
+    OfRecord l.w (λ g. (q : Buffer)
+    → Wrote (buffer l.out l.place) (regions_text l.r (drop l.r g.regions)) q → Wrote (buffer l.initial.out l.initial.place) (regions_text 0 g.regions) q)

@@ -1,0 +1,2 @@
+pub mod CellTagsBack
+pub mod RewriteKindsBack
