@@ -59,11 +59,12 @@ fn put_numbers(w: &[u16; WORDS], out: &mut [u32], x: Counted, list: Handle) -> C
     let mut y = x;
     let mut h = list;
     while 0 < h.0 {
-        y = if cell_tag(w, h) == CellTag::Join {
-            put_numbers(w, out, y, join_list(w, h))
+        // Both arms set y: a value of the `if` would stand in each frame of this recursion once more.
+        if cell_tag(w, h) == CellTag::Join {
+            y = put_numbers(w, out, y, join_list(w, h));
         } else {
-            put_cell_numbers(w, out, y, h)
-        };
+            y = put_cell_numbers(w, out, y, h);
+        }
         h = list_before(w, h);
     }
     y
